@@ -1,0 +1,20 @@
+//! Byte streams, a clock and the small lists that every layer above shares.
+#![tactic(auto)]
+
+mod byte_list;
+mod clock;
+mod errors;
+mod memory;
+mod number_list;
+mod standard;
+mod stream;
+mod word_list;
+
+pub use byte_list::ByteList;
+pub use clock::{Clock, FixedClock};
+pub use errors::{Errno, Failed};
+pub use memory::{MemSink, MemSource};
+pub use number_list::NumberList;
+pub use standard::{StdClock, StdSink, StdSource};
+pub use stream::{Sink, Source};
+pub use word_list::WordList;
