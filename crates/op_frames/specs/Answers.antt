@@ -1,0 +1,59 @@
+-- Replies, answers of a replay, and their frames.
+use Rattle.std.specs.Prelude.{ℕ, ◌-◌, ◌^◌, List, [], ◌∷◌, ◌++◌, length, Bool, true, nat_le, if◌then◌else◌}
+use Rattle.op_frames.specs.declared.reply.Attr.{Attr}
+use Rattle.op_frames.specs.declared.reply.Kind.{Kind}
+use Rattle.op_frames.specs.declared.reply.Kind.TheVariants as kinds
+use Rattle.op_frames.specs.declared.reply.Cause.{Cause}
+use Rattle.op_frames.specs.declared.reply.Cause.TheVariants as causes
+use Rattle.op_frames.specs.declared.reply.Reply.{Reply}
+use Rattle.op_frames.specs.declared.reply.Reply.TheVariants as replies
+use Rattle.op_frames.specs.Format.{Format, byte, ◌▸◌, between}
+use Rattle.op_frames.specs.Operations.{u16_field, u32_field, u64_field, data_field}
+use Rattle.op_frames.specs.Frames.{framed}
+
+abbrev pub kind_code : Kind → ℕ
+kind_code kinds.Directory = 1
+kind_code kinds.Regular = 2
+kind_code kinds.Link = 3
+
+abbrev pub cause_code : Cause → ℕ
+cause_code causes.Link = 1
+cause_code causes.Keeper = 2
+cause_code causes.Disk = 3
+cause_code causes.Memory = 4
+
+-- a bit as a byte
+abbrev pub flag_code : Bool → ℕ
+flag_code flag = if flag then 1 else 0
+
+-- the 52 bytes of the attributes
+abbrev pub attr_spelling : Attr → List ℕ
+attr_spelling a =
+    u64_field.spell a.inode ++ (kind_code a.kind ∷ []) ++ u16_field.spell a.mode ++ u32_field.spell a.uid ++ u32_field.spell a.gid
+    ++ u64_field.spell a.links ++ u64_field.spell a.size ++ u64_field.spell a.mtime ++ u64_field.spell a.ctime ++ (flag_code a.locked ∷ [])
+
+-- the tag of a reply, and its fields
+abbrev pub reply_spelling : Reply → List ℕ
+reply_spelling (replies.Attr attr) = (2 ∷ []) ++ attr_spelling attr
+reply_spelling (replies.Opened handle attr) = (3 ∷ []) ++ u64_field.spell handle ++ attr_spelling attr
+reply_spelling (replies.Bytes bytes) = (4 ∷ []) ++ data_field.spell bytes
+reply_spelling (replies.Count count) = (5 ∷ []) ++ u32_field.spell count
+reply_spelling (replies.Errno errno) = (9 ∷ []) ++ u16_field.spell errno.0
+reply_spelling (replies.Fault cause) = (10 ∷ []) ++ (cause_code cause ∷ [])
+
+-- its data, if it has any, fit into one frame
+abbrev pub has_short_data : Reply → Bool
+has_short_data (replies.Bytes bytes) = nat_le (length bytes) 131072
+has_short_data _ = true
+
+-- the bare frame of a reply
+abbrev pub reply_frame : Reply → List ℕ
+reply_frame reply = framed (reply_spelling reply)
+
+-- the answer of a replay to a call
+abbrev pub answer_frame : Reply → List ℕ
+answer_frame reply = framed ((1 ∷ []) ++ reply_spelling reply)
+
+-- the last answer of a replay whose input is refused at a place
+abbrev pub bad_input_frame : ℕ → List ℕ
+bad_input_frame place = framed ((27 ∷ []) ++ u64_field.spell place)

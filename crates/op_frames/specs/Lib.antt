@@ -1,0 +1,6 @@
+pub mod Answers
+pub mod Format
+pub mod Frames
+pub mod Operations
+pub mod Replay
+pub mod Unread

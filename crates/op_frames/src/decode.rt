@@ -1,0 +1,204 @@
+//! Frames of operations and of calls, read from the front of some bytes.
+ghost use Rattle.std.specs.Prelude.{◌≡◌, ◌++◌, ◌≤◌, List, ℕ, length, take, IsTrue, IfOk, Ok};
+ghost use Rattle.op_frames.specs.declared.operation.Op.{Op};
+ghost use Rattle.op_frames.specs.declared.operation.Step.{Step};
+ghost use Rattle.op_frames.specs.declared.operation.Op.TheVariants.{Create, Read, Write};
+ghost use Rattle.op_frames.specs.declared.operation.Step.TheVariants.{Call};
+ghost use Rattle.op_frames.specs.Format.{Gives, made};
+ghost use Rattle.op_frames.specs.Operations.{create_fields, read_fields, write_fields, call_fields, op_behind, op_field, step_behind, step_field, is_op, is_step};
+ghost use Rattle.op_frames.specs.Frames.{body_at, end_at, frame_of, read_frame, StandsInFront};
+ghost use Rattle.op_frames.specs.Replay.{Replays};
+ghost use Rattle.op_frames.specs.Unread.{rest_of};
+
+use crate::fields::{self, Unread};
+use crate::{FrameFault, Op, Step};
+use std::alloc::Global;
+
+fn create_of(alloc: Global, unread: Unread<'_>) -> Result<(Op, Unread<'_>), FrameFault>
+    ensures { Gives (λ x. (x.0, rest_of x.1)) result (made (λ x. Create x.0 x.1.0 x.1.1.0 x.1.1.1.0 x.1.1.1.1) (create_fields.read (rest_of unread.entry))) }
+{
+    let (parent, unread) = fields::u64_of(unread)?;
+    let (name, unread) = fields::name_of(alloc, unread)?;
+    let (mode, unread) = fields::u16_of(unread)?;
+    let (uid, unread) = fields::u32_of(unread)?;
+    let (gid, unread) = fields::u32_of(unread)?;
+    Ok((
+        Op::Create {
+            parent,
+            name,
+            mode,
+            uid,
+            gid,
+        },
+        unread,
+    ))
+}
+
+fn read_of(unread: Unread<'_>) -> Result<(Op, Unread<'_>), FrameFault>
+    ensures { Gives (λ x. (x.0, rest_of x.1)) result (made (λ x. Read x.0 x.1.0 x.1.1) (read_fields.read (rest_of unread.entry))) }
+{
+    let (handle, unread) = fields::u64_of(unread)?;
+    let (offset, unread) = fields::u64_of(unread)?;
+    let (length, unread) = fields::u32_of(unread)?;
+    Ok((
+        Op::Read {
+            handle,
+            offset,
+            length,
+        },
+        unread,
+    ))
+}
+
+fn write_of(alloc: Global, unread: Unread<'_>) -> Result<(Op, Unread<'_>), FrameFault>
+    ensures { Gives (λ x. (x.0, rest_of x.1)) result (made (λ x. Write x.0 x.1.0 x.1.1) (write_fields.read (rest_of unread.entry))) }
+{
+    let (handle, unread) = fields::u64_of(unread)?;
+    let (offset, unread) = fields::u64_of(unread)?;
+    let (bytes, unread) = fields::data_of(alloc, unread)?;
+    Ok((
+        Op::Write {
+            handle,
+            offset,
+            bytes,
+        },
+        unread,
+    ))
+}
+
+/// The fields behind the code of an operation.
+#[tactic(auto, unfolding(crate::specs::Operations::op_behind))]
+fn op_behind_code(
+    alloc: Global,
+    code: u8,
+    unread: Unread<'_>,
+) -> Result<(Op, Unread<'_>), FrameFault>
+    ensures { Gives (λ x. (x.0, rest_of x.1)) result (op_behind code (rest_of unread.entry)) }
+{
+    match code {
+        2 => {
+            let (inode, unread) = fields::u64_of(unread)?;
+            Ok((Op::Getattr { inode }, unread))
+        }
+        8 => create_of(alloc, unread),
+        17 => read_of(unread),
+        _ => write_of(alloc, unread),
+    }
+}
+
+#[tactic(auto, unfolding(crate::specs::Operations::op_field))]
+fn op_of(alloc: Global, unread: Unread<'_>) -> Result<(Op, Unread<'_>), FrameFault>
+    ensures { Gives (λ x. (x.0, rest_of x.1)) result (op_field.read (rest_of unread.entry)) }
+{
+    let (code, unread) = fields::operation_of(unread)?;
+    op_behind_code(alloc, code, unread)
+}
+
+fn call_of(alloc: Global, unread: Unread<'_>) -> Result<(Step, Unread<'_>), FrameFault>
+    ensures { Gives (λ x. (x.0, rest_of x.1)) result (made (λ x. Call x.0 x.1.0 x.1.1) (call_fields.read (rest_of unread.entry))) }
+{
+    let (pass, unread) = fields::pass_of(unread)?;
+    let (now, unread) = fields::time_of(unread)?;
+    let (op, unread) = op_of(alloc, unread)?;
+    Ok((Step::Call { pass, now, op }, unread))
+}
+
+/// The fields behind the kind of a step.
+#[tactic(auto, unfolding(crate::specs::Operations::step_behind))]
+fn step_behind_kind(
+    alloc: Global,
+    kind: u8,
+    unread: Unread<'_>,
+) -> Result<(Step, Unread<'_>), FrameFault>
+    ensures { Gives (λ x. (x.0, rest_of x.1)) result (step_behind kind (rest_of unread.entry)) }
+{
+    match kind {
+        18 => Ok((Step::End, unread)),
+        _ => call_of(alloc, unread),
+    }
+}
+
+#[tactic(auto, unfolding(crate::specs::Operations::step_field))]
+fn step_of(alloc: Global, unread: Unread<'_>) -> Result<(Step, Unread<'_>), FrameFault>
+    ensures { Gives (λ x. (x.0, rest_of x.1)) result (step_field.read (rest_of unread.entry)) }
+{
+    let (kind, unread) = fields::kind_of(unread)?;
+    step_behind_kind(alloc, kind, unread)
+}
+
+/// The fields of the frame in front, behind its length.
+#[tactic(auto, unfolding(crate::specs::Frames::length_field))]
+fn body_of(bytes: &[u8]) -> Result<Unread<'_>, FrameFault>
+    ensures { Gives rest_of result (body_at bytes.now) }
+{
+    let (length, unread) = fields::length_of(Unread {
+        place: 0,
+        end: 4,
+        bytes,
+    })?;
+    Ok(Unread {
+        place: 4,
+        end: 4 + length as u64,
+        bytes: unread.bytes,
+    })
+}
+
+/// The frame's length, if its fields fill it.
+fn end_of(unread: Unread<'_>) -> Result<usize, FrameFault>
+    ensures { Gives (λ n. n) result (end_at (rest_of unread.entry)) }
+{
+    if unread.place < unread.end {
+        return Err(FrameFault::Bad(unread.place));
+    }
+    Ok(unread.place as usize)
+}
+
+#[tactic(auto, unfolding(crate::specs::Frames::read_frame))]
+fn op_frame_of(alloc: Global, bytes: &[u8]) -> Result<(Op, usize), FrameFault>
+    ensures { Gives (λ x. x) result (read_frame op_field bytes.now) }
+{
+    let body = body_of(bytes)?;
+    let (op, rest) = op_of(alloc, body)?;
+    let length = end_of(rest)?;
+    Ok((op, length))
+}
+
+#[tactic(auto, unfolding(crate::specs::Frames::read_frame))]
+fn step_frame_of(alloc: Global, bytes: &[u8]) -> Result<(Step, usize), FrameFault>
+    ensures { Gives (λ x. x) result (read_frame step_field bytes.now) }
+{
+    let body = body_of(bytes)?;
+    let (step, rest) = step_of(alloc, body)?;
+    let length = end_of(rest)?;
+    Ok((step, length))
+}
+
+/// The operation whose frame, as a caller of a server sends it, stands in front, and the frame's length in bytes.
+/// Bytes may follow it.
+pub fn decode_op(alloc: Global, bytes: &[u8]) -> Result<(Op, usize), FrameFault>
+    // What is read stands there, each byte of it, and is within the field rules.
+    ensures found { IfOk result (λ x. StandsInFront op_field bytes.now x.0 x.1) }
+    // What stands there is read, unless memory runs out.
+    ensures only { (op : Op) (rest : List ℕ) → IsTrue (is_op op) → bytes.now ≡ frame_of op_field op ++ rest
+        → Gives (λ x. x) result (Ok (op, length (frame_of op_field op))) }
+    // Which fault it is: `Short` and `Bad` by the rule of fields, read from the left.
+    ensures exact { Gives (λ x. x) result (read_frame op_field bytes.now) }
+{
+    op_frame_of(alloc, bytes)
+}
+
+/// The step whose frame stands in front, and the frame's length in bytes. Bytes may follow it. Each other kind of
+/// event is outside its rule.
+pub fn decode_call(alloc: Global, bytes: &[u8]) -> Result<(Step, usize), FrameFault>
+    // What is read stands there, each byte of it, and is within the field rules.
+    ensures found { IfOk result (λ x. StandsInFront step_field bytes.now x.0 x.1) }
+    // What stands there is read, unless memory runs out.
+    ensures only { (step : Step) (rest : List ℕ) → IsTrue (is_step step) → bytes.now ≡ frame_of step_field step ++ rest
+        → Gives (λ x. x) result (Ok (step, length (frame_of step_field step))) }
+    // Which fault it is: `Short` and `Bad` by the rule of fields, read from the left.
+    ensures exact { Gives (λ x. x) result (read_frame step_field bytes.now) }
+    // What a replay is whose input goes on with these bytes and then with others.
+    ensures replay { (place : ℕ) (rest : List ℕ) → Replays result place bytes.now rest }
+{
+    step_frame_of(alloc, bytes)
+}

@@ -1,0 +1,164 @@
+//! Frames of replies and of a replay's answers.
+ghost use Rattle.std.specs.Prelude.{◌≡◌, ◌++◌, ◌<◌, ◌≤◌, ◌^◌, [], ◌∷◌, length, IsTrue, IfOk, OnOk};
+ghost use Rattle.op_frames.specs.Operations.{u16_field, u32_field, u64_field, data_field};
+ghost use Rattle.op_frames.specs.Frames.{framed};
+ghost use Rattle.op_frames.specs.Answers.{kind_code, cause_code, flag_code, attr_spelling, reply_spelling, has_short_data, reply_frame, answer_frame, bad_input_frame};
+
+use crate::{Attr, Cause, Kind, Reply};
+use byteorder::{BigEndian, ByteOrder};
+use s3_base::ByteList;
+use std::alloc::{AllocError, Global};
+
+/// The tag of a replay's answer that holds a reply.
+const REPLY: u8 = 1;
+
+/// The tag of the answer at which the input is refused.
+const BAD_INPUT: u8 = 27;
+
+#[tactic(auto, unfolding(crate::specs::Operations::u16_field))]
+fn put_u16(out: &mut ByteList, number: u16) -> Result<(), AllocError>
+    ensures { OnOk result (out.new ≡ out.old ++ u16_field.spell number) }
+{
+    let mut bytes = [0; 2];
+    BigEndian::write_u16(&mut bytes, number);
+    out.extend_from_slice(&bytes)
+}
+
+#[tactic(auto, unfolding(crate::specs::Operations::u32_field))]
+fn put_u32(out: &mut ByteList, number: u32) -> Result<(), AllocError>
+    ensures { OnOk result (out.new ≡ out.old ++ u32_field.spell number) }
+{
+    let mut bytes = [0; 4];
+    BigEndian::write_u32(&mut bytes, number);
+    out.extend_from_slice(&bytes)
+}
+
+#[tactic(auto, unfolding(crate::specs::Operations::u64_field))]
+fn put_u64(out: &mut ByteList, number: u64) -> Result<(), AllocError>
+    ensures { OnOk result (out.new ≡ out.old ++ u64_field.spell number) }
+{
+    let mut bytes = [0; 8];
+    BigEndian::write_u64(&mut bytes, number);
+    out.extend_from_slice(&bytes)
+}
+
+fn code_of_kind(kind: Kind) -> u8
+    ensures { result ≡ kind_code kind }
+{
+    match kind {
+        Kind::Directory => 1,
+        Kind::Regular => 2,
+        Kind::Link => 3,
+    }
+}
+
+fn code_of_cause(cause: Cause) -> u8
+    ensures { result ≡ cause_code cause }
+{
+    match cause {
+        Cause::Link => 1,
+        Cause::Keeper => 2,
+        Cause::Disk => 3,
+        Cause::Memory => 4,
+    }
+}
+
+fn put_attr(out: &mut ByteList, attr: &Attr) -> Result<(), AllocError>
+    ensures { OnOk result (out.new ≡ out.old ++ attr_spelling attr.now) }
+{
+    put_u64(out, attr.inode)?;
+    out.push(code_of_kind(attr.kind))?;
+    put_u16(out, attr.mode)?;
+    put_u32(out, attr.uid)?;
+    put_u32(out, attr.gid)?;
+    put_u64(out, attr.links)?;
+    put_u64(out, attr.size)?;
+    put_u64(out, attr.mtime)?;
+    put_u64(out, attr.ctime)?;
+    out.push(u8::from(attr.locked))?;
+    Ok(())
+}
+
+#[tactic(auto, unfolding(crate::specs::Operations::data_field, crate::specs::Operations::data_length_field))]
+fn put_data(out: &mut ByteList, bytes: &ByteList) -> Result<(), AllocError>
+    requires { length bytes.now ≤ 131072 }
+    ensures { OnOk result (out.new ≡ out.old ++ data_field.spell bytes.now) }
+{
+    put_u32(out, bytes.len() as u32)?;
+    out.extend_from_slice(bytes.as_slice())
+}
+
+fn put_reply(out: &mut ByteList, reply: &Reply) -> Result<(), AllocError>
+    requires { IsTrue (has_short_data reply.now) }
+    ensures { OnOk result (out.new ≡ out.old ++ reply_spelling reply.now) }
+{
+    match reply {
+        Reply::Attr(attr) => {
+            out.push(2)?;
+            put_attr(out, attr)
+        }
+        Reply::Opened { handle, attr } => {
+            out.push(3)?;
+            put_u64(out, *handle)?;
+            put_attr(out, attr)
+        }
+        Reply::Bytes(bytes) => {
+            out.push(4)?;
+            put_data(out, bytes)
+        }
+        Reply::Count(count) => {
+            out.push(5)?;
+            put_u32(out, *count)
+        }
+        Reply::Errno(errno) => {
+            out.push(9)?;
+            put_u16(out, errno.0)
+        }
+        Reply::Fault(cause) => {
+            out.push(10)?;
+            out.push(code_of_cause(*cause))
+        }
+    }
+}
+
+/// The frame around a body.
+fn frame(alloc: Global, body: &ByteList) -> Result<ByteList, AllocError>
+    requires { length body.now < 2 ^ 32 }
+    ensures { IfOk result (λ b. b ≡ framed body.now) }
+{
+    let mut out = ByteList::new(alloc);
+    put_u32(&mut out, body.len() as u32)?;
+    out.extend_from_slice(body.as_slice())?;
+    Ok(out)
+}
+
+/// The bare frame of a reply, as a server writes it.
+pub fn encode_reply(alloc: Global, reply: &Reply) -> Result<ByteList, AllocError>
+    requires { IsTrue (has_short_data reply.now) }
+    ensures { IfOk result (λ b. b ≡ reply_frame reply.now) }
+{
+    let mut body = ByteList::new(alloc);
+    put_reply(&mut body, reply)?;
+    frame(alloc, &body)
+}
+
+/// The answer frame of a reply, as a replay writes it.
+pub fn encode_answer(alloc: Global, reply: &Reply) -> Result<ByteList, AllocError>
+    requires { IsTrue (has_short_data reply.now) }
+    ensures { IfOk result (λ b. b ≡ answer_frame reply.now) }
+{
+    let mut body = ByteList::new(alloc);
+    body.push(REPLY)?;
+    put_reply(&mut body, reply)?;
+    frame(alloc, &body)
+}
+
+/// The last answer frame of a replay whose input is refused at a place.
+pub fn encode_bad_input(alloc: Global, place: u64) -> Result<ByteList, AllocError>
+    ensures { IfOk result (λ b. b ≡ bad_input_frame place) }
+{
+    let mut body = ByteList::new(alloc);
+    body.push(BAD_INPUT)?;
+    put_u64(&mut body, place)?;
+    frame(alloc, &body)
+}

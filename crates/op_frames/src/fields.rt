@@ -1,0 +1,191 @@
+//! The fields of a frame, from left to right.
+ghost use Rattle.std.specs.Prelude.{◌≡◌, ◌-◌, ◌<◌, ◌≤◌, ◌^◌, length, IfOk};
+ghost use Rattle.std.specs.Int.{w32, w64, from_be_bytes};
+ghost use Rattle.op_frames.specs.Format.{Gives, front, byte, number, always, between};
+ghost use Rattle.op_frames.specs.Operations.{u16_field, u32_field, u64_field, name_field, data_length_field, data_field, pass_field, time_field, operation_field, kind_field};
+ghost use Rattle.op_frames.specs.Frames.{length_field};
+ghost use Rattle.op_frames.specs.Unread.{rest_of};
+
+use crate::FrameFault;
+use s3_base::ByteList;
+use std::alloc::Global;
+
+/// The longest data of a read or a write, in bytes.
+pub const MAX_DATA: u32 = 131_072;
+
+/// The longest body of a frame, in bytes.
+pub const MAX_BODY: u32 = 262_144;
+
+/// One more than the last pass and the last time.
+pub const LIMIT: u64 = 1 << 62;
+
+/// Where a reader stands in a frame.
+#[derive(Clone, Copy, Debug)]
+pub struct Unread<'a> {
+    /// The place of the next byte, counted from the frame's first.
+    pub place: u64,
+    /// The place behind the frame's last byte, by its length.
+    pub end: u64,
+    /// The bytes from the place on, which may be fewer than the frame's or more.
+    pub bytes: &'a [u8],
+}
+
+pub fn front_of(n: u32, unread: Unread<'_>) -> Result<(&[u8], Unread<'_>), FrameFault>
+    ensures read { Gives (λ x. (x.0.now, rest_of x.1)) result (front n (rest_of unread.entry)) }
+    ensures len { IfOk result (λ x. length x.0.now ≡ n) }
+{
+    if unread.end.saturating_sub(unread.place) < n as u64 {
+        return Err(FrameFault::Bad(unread.place));
+    }
+    if unread.bytes.len() < n as usize {
+        return Err(FrameFault::Short);
+    }
+    let (front, bytes) = unread.bytes.split_at(n as usize);
+    Ok((
+        front,
+        Unread {
+            place: unread.place + n as u64,
+            end: unread.end,
+            bytes,
+        },
+    ))
+}
+
+fn byte_of(unread: Unread<'_>) -> Result<(u8, Unread<'_>), FrameFault>
+    ensures { Gives (λ x. (x.0, rest_of x.1)) result ((byte always).read (rest_of unread.entry)) }
+{
+    let (bytes, unread) = front_of(1, unread)?;
+    Ok((bytes[0], unread))
+}
+
+fn u32_from(bytes: &[u8]) -> u32
+    requires { length bytes.now ≡ 4 }
+    ensures { result ≡ from_be_bytes w32 bytes.now }
+{
+    u32::from_be_bytes([bytes[0], bytes[1], bytes[2], bytes[3]])
+}
+
+fn u64_from(bytes: &[u8]) -> u64
+    requires { length bytes.now ≡ 8 }
+    ensures { result ≡ from_be_bytes w64 bytes.now }
+{
+    u64::from_be_bytes([
+        bytes[0], bytes[1], bytes[2], bytes[3], bytes[4], bytes[5], bytes[6], bytes[7],
+    ])
+}
+
+#[tactic(auto, unfolding(crate::specs::Operations::u16_field))]
+pub fn u16_of(unread: Unread<'_>) -> Result<(u16, Unread<'_>), FrameFault>
+    ensures { Gives (λ x. (x.0, rest_of x.1)) result (u16_field.read (rest_of unread.entry)) }
+{
+    let (bytes, unread) = front_of(2, unread)?;
+    Ok((u16::from_be_bytes([bytes[0], bytes[1]]), unread))
+}
+
+#[tactic(auto, unfolding(crate::specs::Operations::u32_field))]
+pub fn u32_of(unread: Unread<'_>) -> Result<(u32, Unread<'_>), FrameFault>
+    ensures { Gives (λ x. (x.0, rest_of x.1)) result (u32_field.read (rest_of unread.entry)) }
+{
+    let (bytes, unread) = front_of(4, unread)?;
+    Ok((u32_from(bytes), unread))
+}
+
+#[tactic(auto, unfolding(crate::specs::Operations::u64_field))]
+pub fn u64_of(unread: Unread<'_>) -> Result<(u64, Unread<'_>), FrameFault>
+    ensures { Gives (λ x. (x.0, rest_of x.1)) result (u64_field.read (rest_of unread.entry)) }
+{
+    let (bytes, unread) = front_of(8, unread)?;
+    Ok((u64_from(bytes), unread))
+}
+
+/// A number from `low` to `high`.
+fn u64_between(low: u64, high: u64, unread: Unread<'_>) -> Result<(u64, Unread<'_>), FrameFault>
+    ensures { Gives (λ x. (x.0, rest_of x.1)) result ((number w64 (between low high)).read (rest_of unread.entry)) }
+{
+    let (bytes, after) = front_of(8, unread)?;
+    let number = u64_from(bytes);
+    if number < low || number > high {
+        return Err(FrameFault::Bad(unread.place));
+    }
+    Ok((number, after))
+}
+
+#[tactic(auto, unfolding(crate::specs::Operations::pass_field))]
+pub fn pass_of(unread: Unread<'_>) -> Result<(u64, Unread<'_>), FrameFault>
+    ensures { Gives (λ x. (x.0, rest_of x.1)) result (pass_field.read (rest_of unread.entry)) }
+{
+    u64_between(1, LIMIT - 1, unread)
+}
+
+#[tactic(auto, unfolding(crate::specs::Operations::time_field))]
+pub fn time_of(unread: Unread<'_>) -> Result<(u64, Unread<'_>), FrameFault>
+    ensures { Gives (λ x. (x.0, rest_of x.1)) result (time_field.read (rest_of unread.entry)) }
+{
+    u64_between(0, LIMIT - 1, unread)
+}
+
+/// A number of four bytes from `low` to `high`.
+fn u32_between(low: u32, high: u32, unread: Unread<'_>) -> Result<(u32, Unread<'_>), FrameFault>
+    ensures { Gives (λ x. (x.0, rest_of x.1)) result ((number w32 (between low high)).read (rest_of unread.entry)) }
+{
+    let (bytes, after) = front_of(4, unread)?;
+    let number = u32_from(bytes);
+    if number < low || number > high {
+        return Err(FrameFault::Bad(unread.place));
+    }
+    Ok((number, after))
+}
+
+#[tactic(auto, unfolding(crate::specs::Frames::length_field))]
+pub fn length_of(unread: Unread<'_>) -> Result<(u32, Unread<'_>), FrameFault>
+    ensures { Gives (λ x. (x.0, rest_of x.1)) result (length_field.read (rest_of unread.entry)) }
+{
+    u32_between(1, MAX_BODY, unread)
+}
+
+#[tactic(auto, unfolding(crate::specs::Operations::data_length_field))]
+fn data_length_of(unread: Unread<'_>) -> Result<(u32, Unread<'_>), FrameFault>
+    ensures { Gives (λ x. (x.0, rest_of x.1)) result (data_length_field.read (rest_of unread.entry)) }
+{
+    u32_between(0, MAX_DATA, unread)
+}
+
+#[tactic(auto, unfolding(crate::specs::Operations::name_field))]
+pub fn name_of(alloc: Global, unread: Unread<'_>) -> Result<(ByteList, Unread<'_>), FrameFault>
+    ensures { Gives (λ x. (x.0, rest_of x.1)) result (name_field.read (rest_of unread.entry)) }
+{
+    let (len, unread) = u16_of(unread)?;
+    let (name, unread) = front_of(len as u32, unread)?;
+    Ok((ByteList::from_slice(alloc, name)?, unread))
+}
+
+#[tactic(auto, unfolding(crate::specs::Operations::data_field))]
+pub fn data_of(alloc: Global, unread: Unread<'_>) -> Result<(ByteList, Unread<'_>), FrameFault>
+    ensures { Gives (λ x. (x.0, rest_of x.1)) result (data_field.read (rest_of unread.entry)) }
+{
+    let (len, unread) = data_length_of(unread)?;
+    let (bytes, unread) = front_of(len, unread)?;
+    Ok((ByteList::from_slice(alloc, bytes)?, unread))
+}
+
+#[tactic(auto, unfolding(crate::specs::Operations::operation_field))]
+pub fn operation_of(unread: Unread<'_>) -> Result<(u8, Unread<'_>), FrameFault>
+    ensures { Gives (λ x. (x.0, rest_of x.1)) result (operation_field.read (rest_of unread.entry)) }
+{
+    let (code, after) = byte_of(unread)?;
+    match code {
+        2 | 8 | 17 | 18 => Ok((code, after)),
+        _ => Err(FrameFault::Bad(unread.place)),
+    }
+}
+
+#[tactic(auto, unfolding(crate::specs::Operations::kind_field))]
+pub fn kind_of(unread: Unread<'_>) -> Result<(u8, Unread<'_>), FrameFault>
+    ensures { Gives (λ x. (x.0, rest_of x.1)) result (kind_field.read (rest_of unread.entry)) }
+{
+    let (kind, after) = byte_of(unread)?;
+    match kind {
+        1 | 18 => Ok((kind, after)),
+        _ => Err(FrameFault::Bad(unread.place)),
+    }
+}

@@ -1,0 +1,18 @@
+//! Laws of the formats, each the contract of a function without a body.
+ghost use Rattle.std.specs.Prelude.{◌≡◌, ◌++◌, List, ℕ, IsTrue};
+ghost use Rattle.op_frames.specs.declared.operation.Op.{Op};
+ghost use Rattle.op_frames.specs.declared.operation.Step.{Step};
+ghost use Rattle.op_frames.specs.Operations.{op_field, step_field, is_op, is_step};
+ghost use Rattle.op_frames.specs.Frames.{frame_of};
+
+/// No frame of an operation begins another, so what was written is read again, whatever follows it.
+pub fn op_frames_differ()
+    ensures { (a b : Op) (x y : List ℕ) → IsTrue (is_op a) → IsTrue (is_op b)
+        → frame_of op_field a ++ x ≡ frame_of op_field b ++ y → (a ≡ b) × (x ≡ y) }
+{}
+
+/// The same of the frames of steps.
+pub fn step_frames_differ()
+    ensures { (a b : Step) (x y : List ℕ) → IsTrue (is_step a) → IsTrue (is_step b)
+        → frame_of step_field a ++ x ≡ frame_of step_field b ++ y → (a ≡ b) × (x ≡ y) }
+{}

@@ -1,0 +1,17 @@
+//! Frames of operations, replies and calls: one spelling for each value, and the first fault of any bytes.
+#![tactic(auto)]
+
+mod decode;
+mod encode;
+mod fault;
+mod fields;
+mod laws;
+mod operation;
+mod reply;
+
+pub use decode::{decode_call, decode_op};
+pub use encode::{encode_answer, encode_bad_input, encode_reply};
+pub use fault::FrameFault;
+pub use laws::{op_frames_differ, step_frames_differ};
+pub use operation::{Op, Step};
+pub use reply::{Attr, Cause, Kind, Reply};

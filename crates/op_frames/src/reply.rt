@@ -1,0 +1,44 @@
+use s3_base::{ByteList, Errno};
+
+/// What a node of the tree is.
+#[derive(Clone, Copy, Debug, PartialEq, Eq)]
+pub enum Kind {
+    Directory,
+    Regular,
+    Link,
+}
+
+/// The attributes of a node. Times are nanoseconds since 1970-01-01 00:00 UTC, and `size` counts bytes.
+#[derive(Clone, Copy, Debug, PartialEq, Eq)]
+pub struct Attr {
+    pub inode: u64,
+    pub kind: Kind,
+    pub mode: u16,
+    pub uid: u32,
+    pub gid: u32,
+    pub links: u64,
+    pub size: u64,
+    pub mtime: u64,
+    pub ctime: u64,
+    pub locked: bool,
+}
+
+/// Why a call could not be carried out.
+#[derive(Clone, Copy, Debug, PartialEq, Eq)]
+pub enum Cause {
+    Link,
+    Keeper,
+    Disk,
+    Memory,
+}
+
+/// The reply to an operation.
+#[derive(Debug, Drop)]
+pub enum Reply {
+    Attr(Attr),
+    Opened { handle: u64, attr: Attr },
+    Bytes(ByteList),
+    Count(u32),
+    Errno(Errno),
+    Fault(Cause),
+}
