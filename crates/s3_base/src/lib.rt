@@ -8,6 +8,8 @@ mod memory;
 mod number_list;
 mod standard;
 mod stream;
+#[cfg(test)]
+mod tests;
 mod word_list;
 
 pub use byte_list::ByteList;

@@ -1,5 +1,5 @@
 //! A source and a sink in memory, whose calls of stated numbers fail.
-ghost use Rattle.std.specs.Prelude.{◌≡◌, ◌≢◌, ◌<◌, ◌≤◌, ◌↔◌, ℕ, List, [], Option, Some, length, take, drop, IsTrue, IfOk, OnOk, OnErr, is_err, Contains};
+ghost use Rattle.std.specs.Prelude.{◌≡◌, ◌≢◌, ◌+◌, ◌-◌, ◌^◌, min, ◌<◌, ◌≤◌, ◌↔◌, ℕ, List, [], Option, Some, length, take, drop, IsTrue, IfOk, OnOk, OnErr, is_err, Contains};
 ghost use Rattle.s3_base.specs.Stream.{Stream, Takes, Appends, AppendsFront};
 ghost use Rattle.s3_base.specs.Faults.{HasCause};
 ghost use Rattle.s3_base.specs.Memory.{SourceState, SinkState};
@@ -53,6 +53,8 @@ impl Source for MemSource {
         ensures err { OnErr result (self.new.stream ≡ self.old.stream) }
         ensures cause { HasCause self.old.faults self.new.faults (is_err result) }
         ensures fails { IsTrue (is_err result) ↔ Contains self.old.fails self.old.calls }
+        ensures calls { self.new.calls ≡ min (self.old.calls + 1) (2 ^ 64 - 1) }
+        ensures kept { self.new.fails ≡ self.old.fails }
     {
         let call = self.calls;
         self.calls = call.saturating_add(1);
@@ -116,6 +118,8 @@ impl Sink for MemSink {
         ensures cause { HasCause self.old.faults self.new.faults (is_err result) }
         ensures fails { Contains self.old.fails self.old.calls → IsTrue (is_err result) }
         ensures nothing { OnErr result (self.new.bytes ≡ self.old.bytes) }
+        ensures calls { self.new.calls ≡ min (self.old.calls + 1) (2 ^ 64 - 1) }
+        ensures kept { self.new.fails ≡ self.old.fails }
     {
         let call = self.calls;
         self.calls = call.saturating_add(1);

@@ -1,5 +1,9 @@
-//! Sources, sinks and clocks over those of std. They tell no bytes.
-ghost use Rattle.std.specs.Prelude.{◌≡◌, ℕ, ◌<◌, ◌^◌, Option, None};
+//! Sources, sinks and clocks over those of std. As sources and sinks they tell no bytes; their own clauses say what they
+//! do to a reader or a writer that tells its bytes.
+ghost use Rattle.std.specs.Prelude.{◌≡◌, ℕ, ◌<◌, ◌≤◌, ◌^◌, Option, None, length, IfOk, is_err};
+ghost use Rattle.std.specs.Io.KnownBytes.{ReadConsumes};
+ghost use Rattle.s3_base.specs.Faults.{HasCause};
+ghost use Rattle.s3_base.specs.Writer.{WritesAll};
 
 use crate::{Clock, Failed, Sink, Source};
 use std::io::{Read, Write};
@@ -18,7 +22,8 @@ pub struct StdSource<R> {
 
 impl<R: Read> StdSource<R> {
     pub fn new(inner: R) -> Self
-        ensures { result.faults ≡ 0 }
+        ensures inner { result.inner ≡ inner }
+        ensures faults { result.faults ≡ 0 }
     {
         StdSource { inner, faults: 0 }
     }
@@ -29,7 +34,12 @@ impl<R: Read> Source for StdSource<R> {
 
     ghost faults = { λ s. s.faults };
 
-    fn next(&mut self, buf: &mut [u8]) -> Result<usize, Failed> {
+    fn next(&mut self, buf: &mut [u8]) -> Result<usize, Failed>
+        requires { 0 < length buf.old }
+        ensures within { IfOk result (λ n. n ≤ length buf.old) }
+        ensures cause { HasCause self.old.faults self.new.faults (is_err result) }
+        ensures bytes { ReadConsumes (R.remaining self.old.inner) (R.remaining self.new.inner) result buf.new }
+    {
         match self.inner.read(buf) {
             Ok(n) => Ok(n),
             Err(_) => {
@@ -49,7 +59,8 @@ pub struct StdSink<W> {
 
 impl<W: Write> StdSink<W> {
     pub fn new(inner: W) -> Self
-        ensures { result.faults ≡ 0 }
+        ensures inner { result.inner ≡ inner }
+        ensures faults { result.faults ≡ 0 }
     {
         StdSink { inner, faults: 0 }
     }
@@ -60,7 +71,10 @@ impl<W: Write> Sink for StdSink<W> {
 
     ghost faults = { λ s. s.faults };
 
-    fn put(&mut self, bytes: &[u8]) -> Result<(), Failed> {
+    fn put(&mut self, bytes: &[u8]) -> Result<(), Failed>
+        ensures cause { HasCause self.old.faults self.new.faults (is_err result) }
+        ensures bytes { WritesAll (W.contents self.old.inner) (W.contents self.new.inner) result bytes.now }
+    {
         match write_all(&mut self.inner, bytes) {
             Ok(()) => Ok(()),
             Err(Failed) => {
@@ -72,7 +86,9 @@ impl<W: Write> Sink for StdSink<W> {
 }
 
 /// Hands all of the bytes on.
-fn write_all<W: Write>(writer: &mut W, bytes: &[u8]) -> Result<(), Failed> {
+fn write_all<W: Write>(writer: &mut W, bytes: &[u8]) -> Result<(), Failed>
+    ensures { WritesAll (W.contents writer.old) (W.contents writer.new) result bytes.now }
+{
     let mut rest = bytes;
     while !rest.is_empty() {
         match writer.write(rest) {
@@ -95,13 +111,18 @@ pub struct StdClock<R> {
 }
 
 impl<R: rt::Clock> StdClock<R> {
-    pub fn new(rt: R) -> Self {
+    pub fn new(rt: R) -> Self
+        ensures { result.last ≡ 0 }
+    {
         StdClock { rt, last: 0 }
     }
 }
 
 impl<R: rt::Clock> Clock for StdClock<R> {
-    fn now(&mut self) -> u64 {
+    fn now(&mut self) -> u64
+        ensures in_range { result < 2 ^ 62 }
+        ensures kept { result ≡ self.new.last }
+    {
         if let Ok(time) = SystemTime::now(&self.rt)
             && let Ok(since) = time.duration_since(SystemTime::UNIX_EPOCH)
         {
