@@ -79,7 +79,7 @@ fn put_attr(out: &mut ByteList, attr: &Attr) -> Result<(), AllocError>
     Ok(())
 }
 
-#[tactic(auto, unfolding(crate::specs::Operations::data_field, crate::specs::Operations::data_length_field))]
+#[tactic(auto, unfolding(crate::specs::Operations::u32_field, crate::specs::Operations::data_field, crate::specs::Operations::data_length_field))]
 fn put_data(out: &mut ByteList, bytes: &ByteList) -> Result<(), AllocError>
     requires { length bytes.now ≤ 131072 }
     ensures { OnOk result (out.new ≡ out.old ++ data_field.spell bytes.now) }
@@ -122,6 +122,7 @@ fn put_reply(out: &mut ByteList, reply: &Reply) -> Result<(), AllocError>
 }
 
 /// The frame around a body.
+#[tactic(auto, unfolding(crate::specs::Operations::u32_field))]
 fn frame(alloc: Global, body: &ByteList) -> Result<ByteList, AllocError>
     requires { length body.now < 2 ^ 32 }
     ensures { IfOk result (λ b. b ≡ framed body.now) }

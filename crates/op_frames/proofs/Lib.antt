@@ -1,0 +1,6 @@
+pub mod Formats
+pub mod Tagged
+pub mod Operations
+pub mod Frames
+pub mod Replay
+pub mod Answers
