@@ -1,6 +1,6 @@
 -- A frame: four bytes of length, from 1 to 262,144, and so many bytes, which its fields fill exactly.
-use Rattle.std.specs.Prelude.{◌≡◌, ℕ, ◌==◌, ◌≤◌, List, ◌++◌, length, take, IsTrue, if◌then◌else◌, Result, Ok, Err}
-use Rattle.std.specs.Int.{w32, to_be_bytes}
+use Rattle.std.specs.Prelude.{◌≡◌, ℕ, ◌+◌, ◌==◌, ◌<◌, ◌≤◌, List, ◌++◌, length, take, IsTrue, if◌then◌else◌, Result, Ok, Err}
+use Rattle.std.specs.Int.{w32, from_be_bytes, to_be_bytes}
 use Rattle.op_frames.specs.declared.fault.FrameFault.{FrameFault}
 use Rattle.op_frames.specs.declared.fault.FrameFault.TheVariants as faults
 use Rattle.op_frames.specs.Format.{Rest, Format, ◌>>=◌, number, between}
@@ -27,6 +27,14 @@ end_at r = if r.room == 0 then Ok r.place else Err (faults.Bad r.place)
 -- the value of the frame in front and the frame's length, or the first fault
 unfoldable pub read_frame : {A : Type 0} → Format A → List ℕ → Result (A × ℕ) FrameFault
 read_frame f bytes = body_at bytes >>= λ body. f.read body >>= λ x. end_at x.1 >>= λ n. Ok (x.0, n)
+
+-- the length that the first four bytes say
+abbrev pub said_length : List ℕ → ℕ
+said_length bytes = from_be_bytes w32 (take 4 bytes)
+
+-- the bytes end before their first frame does, whose length is within its rule where it is there
+abbrev pub EndsInside : List ℕ → Type 0
+EndsInside bytes = 4 ≤ length bytes → (said_length bytes ≤ 262144) × (length bytes < 4 + said_length bytes)
 
 -- the first n bytes are the frame of the value, and its fields are within their rules
 pub record StandsInFront {A : Type 0} (f : Format A) (bytes : List ℕ) (x : A) (n : ℕ) : Type 0 where

@@ -1,12 +1,12 @@
 //! Frames of operations and of calls, read from the front of some bytes.
-ghost use Rattle.std.specs.Prelude.{◌≡◌, ◌++◌, ◌≤◌, List, ℕ, length, take, IsTrue, IfOk, Ok};
+ghost use Rattle.std.specs.Prelude.{◌≡◌, ◌+◌, ◌++◌, ◌≤◌, List, ℕ, length, take, IsTrue, IfOk, Ok};
 ghost use Rattle.op_frames.specs.declared.operation.Op.{Op};
 ghost use Rattle.op_frames.specs.declared.operation.Step.{Step};
 ghost use Rattle.op_frames.specs.declared.operation.Op.TheVariants.{Create, Read, Write};
 ghost use Rattle.op_frames.specs.declared.operation.Step.TheVariants.{Call};
 ghost use Rattle.op_frames.specs.Format.{Gives, made};
 ghost use Rattle.op_frames.specs.Operations.{create_fields, read_fields, write_fields, call_fields, op_behind, op_field, step_behind, step_field, is_op, is_step};
-ghost use Rattle.op_frames.specs.Frames.{body_at, end_at, frame_of, read_frame, StandsInFront};
+ghost use Rattle.op_frames.specs.Frames.{body_at, end_at, frame_of, read_frame, EndsInside, StandsInFront};
 ghost use Rattle.op_frames.specs.Replay.{Replays};
 ghost use Rattle.op_frames.specs.Unread.{rest_of};
 
@@ -183,6 +183,9 @@ pub fn decode_op(alloc: Global, bytes: &[u8]) -> Result<(Op, usize), FrameFault>
         → Gives (λ x. x) result (Ok (op, length (frame_of op_field op))) }
     // Which fault it is: `Short` and `Bad` by the rule of fields, read from the left.
     ensures exact { Gives (λ x. x) result (read_frame op_field bytes.now) }
+    // Bytes are missing only where they end before the frame does, and a fault lies in the longest frame.
+    ensures short { result ≡ Err FrameFault.Short → EndsInside bytes.now }
+    ensures near { (place : ℕ) → result ≡ Err (FrameFault.Bad place) → place ≤ 4 + 262144 }
 {
     op_frame_of(alloc, bytes)
 }
@@ -197,6 +200,9 @@ pub fn decode_call(alloc: Global, bytes: &[u8]) -> Result<(Step, usize), FrameFa
         → Gives (λ x. x) result (Ok (step, length (frame_of step_field step))) }
     // Which fault it is: `Short` and `Bad` by the rule of fields, read from the left.
     ensures exact { Gives (λ x. x) result (read_frame step_field bytes.now) }
+    // Bytes are missing only where they end before the frame does, and a fault lies in the longest frame.
+    ensures short { result ≡ Err FrameFault.Short → EndsInside bytes.now }
+    ensures near { (place : ℕ) → result ≡ Err (FrameFault.Bad place) → place ≤ 4 + 262144 }
     // What a replay is whose input goes on with these bytes and then with others.
     ensures replay { (place : ℕ) (rest : List ℕ) → Replays result place bytes.now rest }
 {
