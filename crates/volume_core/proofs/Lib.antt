@@ -1,0 +1,5 @@
+mod Bytes
+mod Counts
+mod Names
+mod Numbers
+mod Outcome

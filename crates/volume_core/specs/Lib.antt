@@ -1,0 +1,4 @@
+pub mod Core
+pub mod Node
+pub mod Refusals
+pub mod Sound
