@@ -1,14 +1,14 @@
 -- The laws of frames: the frame that is read stands in front, the frame that stands in front is read, and bytes behind a
 -- frame change nothing.
-use Rattle.std.proofs.Common.{◌≡◌, ℕ, zero, suc, ◌+◌, ◌-◌, ◌^◌, ◌<◌, ◌≤◌, Bool, true, false, ◌&&◌, cond, eqb, ltb, leb, List, [], ◌∷◌, ◌++◌, length, take, drop, Result, Ok, Err, IfOk, IsTrue, refl, sym, ap, ap₂, subst, ◌∙◌, append_assoc, arith}
+use Rattle.std.proofs.Common.{◌≡◌, ℕ, ◌+◌, ◌-◌, ◌≤◌, true, eqb, List, ◌++◌, length, take, drop, Result, Ok, Err, IfOk, refl, sym, ap, ap₂, subst, ◌∙◌, append_assoc, arith}
 use Rattle.std.specs.Int.{w32, to_be_bytes}
-use Rattle.std.proofs.lemmas.Bool.{eqb-true, and_from, and_parts, lt-ltb, le-leb}
+use Rattle.std.proofs.lemmas.Bool.{eqb-true, and_from, lt-ltb, le-leb}
 use Rattle.std.proofs.lemmas.List.{take_at, drop_at, length-append}
 use Rattle.op_frames.specs.declared.fault.FrameFault.{FrameFault}
 use Rattle.op_frames.specs.declared.fault.FrameFault.TheVariants as faults
 use Rattle.op_frames.specs.Format.{Rest, ◌>>=◌, Format, between, Gives}
-use Rattle.op_frames.specs.Frames.{length_field, framed, frame_of, body_at, end_at, read_frame, StandsInFront}
-use Rattle.op_frames.proofs.Formats.{IsBytes, On, On-then, On-map, Goes, Goes-then, cond_has, stand, behind, with_behind, Took, Took-then, IsFormat, number32_is}
+use Rattle.op_frames.specs.Frames.{length_field, frame_of, body_at, end_at, read_frame, StandsInFront}
+use Rattle.op_frames.proofs.Formats.{IsBytes, On, On-then, Goes, Goes-then, cond_has, stand, behind, with_behind, Took, IsFormat, number32_is}
 
 length_is : IsFormat length_field 4
 unfolding length_field

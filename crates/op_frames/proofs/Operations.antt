@@ -1,14 +1,13 @@
 -- The laws of the operations and of the steps of a replay. Each operation has its line in `Operations`: its fields, its
 -- place in the table of codes, and its spelling.
-use Rattle.std.proofs.Common.{◌≡◌, ℕ, ◌+◌, ◌-◌, ◌^◌, ◌<◌, ◌≤◌, Bool, true, false, ◌&&◌, ◌||◌, eqb, ltb, leb, List, [], ◌∷◌, ◌++◌, length, Result, Ok, Err, refl, sym, ap, ap₂, arith}
+use Rattle.std.proofs.Common.{◌≡◌, ℕ, ◌+◌, ◌-◌, ◌^◌, ◌≤◌, true, ◌||◌, eqb, ltb, leb, [], length, Ok, refl, ap₂, arith}
 use Rattle.std.proofs.Math.Bool.{or_assoc, or_comm}
 use Rattle.std.proofs.lemmas.Bool.{and_parts, ltb-true, leb-true}
-use Rattle.op_frames.specs.declared.fault.FrameFault.{FrameFault}
 use Rattle.op_frames.specs.declared.operation.Op.{Op}
 use Rattle.op_frames.specs.declared.operation.Op.TheVariants.{Getattr, Create, Read, Write}
 use Rattle.op_frames.specs.declared.operation.Step.{Step}
 use Rattle.op_frames.specs.declared.operation.Step.TheVariants.{Call, End}
-use Rattle.op_frames.specs.Format.{Rest, Format, byte, ◌▸◌, always, between}
+use Rattle.op_frames.specs.Format.{Format, ◌▸◌, always, between}
 use Rattle.op_frames.specs.Operations.{u16_field, u32_field, u64_field, name_field, data_length_field, data_field, pass_field, time_field, getattr_fields, create_fields, read_fields, write_fields, is_operation, operation_field, op_spelling, is_op, op_behind, op_field, is_step_kind, kind_field, call_fields, step_spelling, is_step, step_behind, step_field}
 use Rattle.op_frames.proofs.Formats.{stand, IsFormat, number16_is, number32_is, number64_is, counted_is, then_is}
 use Rattle.op_frames.proofs.Tagged.{IsCase, Reads, only_case, or_case, known_as, Written, write_case, tagged_is}

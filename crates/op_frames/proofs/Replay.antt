@@ -1,16 +1,15 @@
 -- How a replay goes on with the frame in front: more steps than there are bytes change nothing, since each frame takes
 -- some of them.
-use Rattle.std.proofs.Common.{◌≡◌, ℕ, zero, suc, ◌+◌, ◌-◌, ◌<◌, ◌≤◌, List, [], ◌∷◌, ◌++◌, length, take, drop, Result, Ok, Err, refl, sym, ap, ap₂, subst, ◌∙◌, arith}
-use Rattle.std.proofs.lemmas.List.{length-append, length-drop, drop-append-le, append-nil}
+use Rattle.std.proofs.Common.{◌≡◌, ℕ, zero, suc, ◌+◌, ◌-◌, ◌<◌, ◌≤◌, List, [], ◌∷◌, ◌++◌, length, drop, Result, Ok, Err, refl, sym, ap, subst, ◌∙◌, arith}
+use Rattle.std.proofs.lemmas.List.{length-append, length-drop, drop-append-le}
 use Rattle.op_frames.specs.declared.fault.FrameFault.{FrameFault}
 use Rattle.op_frames.specs.declared.fault.FrameFault.TheVariants as faults
-use Rattle.op_frames.specs.declared.operation.Op.{Op}
 use Rattle.op_frames.specs.declared.operation.Step.{Step}
 use Rattle.op_frames.specs.declared.operation.Step.TheVariants.{Call, End}
-use Rattle.op_frames.specs.Format.{Rest, ◌>>=◌, Gives}
+use Rattle.op_frames.specs.Format.{Gives}
 use Rattle.op_frames.specs.Operations.{step_field}
 use Rattle.op_frames.specs.Frames.{length_field, read_frame, frame_of}
-use Rattle.op_frames.specs.Replay.{Request, Verdict, Ended, Refused, Replay, fault_place, ended, with_call, replay_from, replay_at, ReplaysStep, Replays}
+use Rattle.op_frames.specs.Replay.{Ended, Refused, Replay, fault_place, ended, with_call, replay_from, replay_at, ReplaysStep, Replays}
 use Rattle.op_frames.proofs.Formats.{IsBytes, On, Goes}
 use Rattle.op_frames.proofs.Operations.{step_is}
 use Rattle.op_frames.proofs.Frames.{Framed, frame_took, frame_onward, frame_more}

@@ -1,5 +1,5 @@
 -- Replies, answers of a replay, and their frames.
-use Rattle.std.specs.Prelude.{ℕ, ◌-◌, ◌^◌, List, [], ◌∷◌, ◌++◌, length, Bool, true, nat_le, if◌then◌else◌}
+use Rattle.std.specs.Prelude.{ℕ, List, [], ◌∷◌, ◌++◌, length, Bool, true, nat_le, if◌then◌else◌}
 use Rattle.op_frames.specs.declared.reply.Attr.{Attr}
 use Rattle.op_frames.specs.declared.reply.Kind.{Kind}
 use Rattle.op_frames.specs.declared.reply.Kind.TheVariants as kinds
@@ -7,7 +7,6 @@ use Rattle.op_frames.specs.declared.reply.Cause.{Cause}
 use Rattle.op_frames.specs.declared.reply.Cause.TheVariants as causes
 use Rattle.op_frames.specs.declared.reply.Reply.{Reply}
 use Rattle.op_frames.specs.declared.reply.Reply.TheVariants as replies
-use Rattle.op_frames.specs.Format.{Format, byte, ◌▸◌, between}
 use Rattle.op_frames.specs.Operations.{u16_field, u32_field, u64_field, data_field}
 use Rattle.op_frames.specs.Frames.{framed}
 

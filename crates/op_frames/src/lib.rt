@@ -15,3 +15,6 @@ pub use fault::FrameFault;
 pub use laws::{op_frames_differ, step_frames_differ};
 pub use operation::{Op, Step};
 pub use reply::{Attr, Cause, Kind, Reply};
+
+#[cfg(test)]
+mod tests;

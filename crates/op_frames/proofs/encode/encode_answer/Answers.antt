@@ -1,4 +1,4 @@
-use Rattle.std.proofs.Common.{◌≡◌, ◌≤◌, length, List, ℕ, [], ◌∷◌, ◌++◌, ap, ◌∙◌, arith}
+use Rattle.std.proofs.Common.{◌≡◌, length, List, ℕ, [], ◌∷◌, ◌++◌, ap, ◌∙◌, arith}
 use Rattle.op_frames.proofs.Answers.{reply_fits}
 use Rattle.op_frames.proofs.encode.encode_answer.Goals as goal
 

@@ -1,0 +1,221 @@
+use super::*;
+use s3_base::{ByteList, Errno};
+use std::test::*;
+
+// A call of pass 1 at 5: create `a` in inode 1, mode 0o644, by 0 and 0.
+const CREATE: &[u8] =
+    b"\x00\x00\x00\x27\x01\x00\x00\x00\x00\x00\x00\x00\x01\x00\x00\x00\x00\x00\x00\x00\x05\x08\x00\x00\x00\x00\x00\x00\x00\x01\x00\x01\x61\x01\xa4\x00\x00\x00\x00\x00\x00\x00\x00";
+// At 6: write `abc` by handle 1, from offset 0.
+const WRITE: &[u8] =
+    b"\x00\x00\x00\x29\x01\x00\x00\x00\x00\x00\x00\x00\x01\x00\x00\x00\x00\x00\x00\x00\x06\x12\x00\x00\x00\x00\x00\x00\x00\x01\x00\x00\x00\x00\x00\x00\x00\x00\x00\x00\x00\x03\x61\x62\x63";
+// At 7: read 10 bytes by handle 1, from offset 0.
+const READ: &[u8] =
+    b"\x00\x00\x00\x26\x01\x00\x00\x00\x00\x00\x00\x00\x01\x00\x00\x00\x00\x00\x00\x00\x07\x11\x00\x00\x00\x00\x00\x00\x00\x01\x00\x00\x00\x00\x00\x00\x00\x00\x00\x00\x00\x0a";
+// The attributes of inode 3, as a caller of a server asks for them.
+const GETATTR: &[u8] = b"\x00\x00\x00\x09\x02\x00\x00\x00\x00\x00\x00\x00\x03";
+
+#[test]
+fn calls(rt: HostRuntime) -> Result<(), Fail> {
+    let (step, length) = decode_call(rt.alloc(), CREATE).ok().ok_or("a call")?;
+    assert_eq!(rt; length, 43);
+    let Step::Call {
+        pass: 1,
+        now: 5,
+        op: Op::Create {
+            parent: 1,
+            name,
+            mode: 0o644,
+            uid: 0,
+            gid: 0,
+        },
+    } = step
+    else {
+        return Err("not this create".into());
+    };
+    assert_eq!(rt; name.as_slice(), b"a".as_slice());
+
+    let (step, length) = decode_call(rt.alloc(), WRITE).ok().ok_or("a call")?;
+    assert_eq!(rt; length, 45);
+    let Step::Call {
+        pass: 1,
+        now: 6,
+        op: Op::Write {
+            handle: 1,
+            offset: 0,
+            bytes,
+        },
+    } = step
+    else {
+        return Err("not this write".into());
+    };
+    assert_eq!(rt; bytes.as_slice(), b"abc".as_slice());
+
+    let (step, length) = decode_call(rt.alloc(), READ).ok().ok_or("a call")?;
+    assert_eq!(rt; length, 42);
+    let Step::Call {
+        pass: 1,
+        now: 7,
+        op: Op::Read {
+            handle: 1,
+            offset: 0,
+            length: 10,
+        },
+    } = step
+    else {
+        return Err("not this read".into());
+    };
+
+    let (step, length) = decode_call(rt.alloc(), b"\x00\x00\x00\x01\x12\xff")
+        .ok()
+        .ok_or("the end")?;
+    assert_eq!(rt; length, 5);
+    assert!(rt; matches!(&step, Step::End));
+
+    let (op, length) = decode_op(rt.alloc(), GETATTR).ok().ok_or("an operation")?;
+    assert_eq!(rt; length, 13);
+    assert!(rt; matches!(&op, Op::Getattr { inode: 3 }));
+    Ok(())
+}
+
+#[test]
+fn replies(rt: HostRuntime) -> Result<(), Fail> {
+    let attr = Attr {
+        inode: 3,
+        kind: Kind::Regular,
+        mode: 0o644,
+        uid: 0,
+        gid: 0,
+        links: 1,
+        size: 0,
+        mtime: 5,
+        ctime: 5,
+        locked: false,
+    };
+    let opened = encode_answer(rt.alloc(), &Reply::Opened { handle: 1, attr })?;
+    assert_eq!(rt;
+        opened.as_slice(),
+        b"\x00\x00\x00\x3e\x01\x03\x00\x00\x00\x00\x00\x00\x00\x01\x00\x00\x00\x00\x00\x00\x00\x03\x02\x01\xa4\x00\x00\x00\x00\x00\x00\x00\x00\x00\x00\x00\x00\x00\x00\x00\x01\x00\x00\x00\x00\x00\x00\x00\x00\x00\x00\x00\x00\x00\x00\x00\x05\x00\x00\x00\x00\x00\x00\x00\x05\x00".as_slice()
+    );
+    let count = encode_answer(rt.alloc(), &Reply::Count(3))?;
+    assert_eq!(rt;
+        count.as_slice(),
+        b"\x00\x00\x00\x06\x01\x05\x00\x00\x00\x03".as_slice()
+    );
+    let abc = encode_answer(
+        rt.alloc(),
+        &Reply::Bytes(ByteList::from_slice(rt.alloc(), b"abc")?),
+    )?;
+    assert_eq!(rt;
+        abc.as_slice(),
+        b"\x00\x00\x00\x09\x01\x04\x00\x00\x00\x03\x61\x62\x63".as_slice()
+    );
+    let fault = encode_answer(rt.alloc(), &Reply::Fault(Cause::Memory))?;
+    assert_eq!(rt;
+        fault.as_slice(),
+        b"\x00\x00\x00\x03\x01\x0a\x04".as_slice()
+    );
+    let errno = encode_reply(rt.alloc(), &Reply::Errno(Errno(9)))?;
+    assert_eq!(rt;
+        errno.as_slice(),
+        b"\x00\x00\x00\x03\x09\x00\x09".as_slice()
+    );
+    let refused = encode_bad_input(rt.alloc(), 0)?;
+    assert_eq!(rt;
+        refused.as_slice(),
+        b"\x00\x00\x00\x09\x1b\x00\x00\x00\x00\x00\x00\x00\x00".as_slice()
+    );
+    Ok(())
+}
+
+// Each place is worked out by hand, from the fields' sizes.
+#[test]
+fn faults(rt: HostRuntime) {
+    let calls: [(&[u8], FrameFault); 16] = [
+        // no bytes
+        (b"", FrameFault::Short),
+        // three of the length's four
+        (b"\x00\x00\x00", FrameFault::Short),
+        // a length of 0
+        (b"\x00\x00\x00\x00", FrameFault::Bad(0)),
+        // a length of 262,145
+        (b"\x00\x04\x00\x01", FrameFault::Bad(0)),
+        // a kind of step that is none
+        (b"\x00\x00\x00\x01\x07", FrameFault::Bad(4)),
+        // pass 0
+        (
+            b"\x00\x00\x00\x27\x01\x00\x00\x00\x00\x00\x00\x00\x00",
+            FrameFault::Bad(5),
+        ),
+        // pass 2^62
+        (
+            b"\x00\x00\x00\x27\x01\x40\x00\x00\x00\x00\x00\x00\x00",
+            FrameFault::Bad(5),
+        ),
+        // time 2^62
+        (
+            b"\x00\x00\x00\x27\x01\x00\x00\x00\x00\x00\x00\x00\x01\x40\x00\x00\x00\x00\x00\x00\x00",
+            FrameFault::Bad(13),
+        ),
+        // one byte for the time
+        (
+            b"\x00\x00\x00\x0a\x01\x00\x00\x00\x00\x00\x00\x00\x01",
+            FrameFault::Bad(13),
+        ),
+        // a code that is none: 4 + 1 + 8 + 8
+        (
+            b"\x00\x00\x00\x12\x01\x00\x00\x00\x00\x00\x00\x00\x01\x00\x00\x00\x00\x00\x00\x00\x05\xee",
+            FrameFault::Bad(21),
+        ),
+        // a name of 65,535 bytes, of which 11 fit: 21 + 1 + 8 + 2
+        (
+            b"\x00\x00\x00\x27\x01\x00\x00\x00\x00\x00\x00\x00\x01\x00\x00\x00\x00\x00\x00\x00\x05\x08\x00\x00\x00\x00\x00\x00\x00\x01\xff\xff",
+            FrameFault::Bad(32),
+        ),
+        // data of 131,073 bytes: 21 + 1 + 8 + 8
+        (
+            b"\x00\x00\x00\x29\x01\x00\x00\x00\x00\x00\x00\x00\x01\x00\x00\x00\x00\x00\x00\x00\x06\x12\x00\x00\x00\x00\x00\x00\x00\x01\x00\x00\x00\x00\x00\x00\x00\x00\x00\x02\x00\x01",
+            FrameFault::Bad(38),
+        ),
+        // a byte after the end's one field
+        (b"\x00\x00\x00\x02\x12\x00", FrameFault::Bad(5)),
+        // the same, with the byte missing
+        (b"\x00\x00\x00\x02\x12", FrameFault::Bad(5)),
+        // a call without its last byte
+        (
+            b"\x00\x00\x00\x27\x01\x00\x00\x00\x00\x00\x00\x00\x01\x00\x00\x00\x00\x00\x00\x00\x05\x08\x00\x00\x00\x00\x00\x00\x00\x01\x00\x01\x61\x01\xa4\x00\x00\x00\x00\x00\x00\x00",
+            FrameFault::Short,
+        ),
+        // the longest length, and no pass yet
+        (b"\x00\x04\x00\x00\x01", FrameFault::Short),
+    ];
+    for (bytes, fault) in calls {
+        assert_eq!(rt;
+            decode_call(rt.alloc(), bytes).err(),
+            Some(fault),
+            "{bytes:?}"
+        );
+    }
+    let ops: [(&[u8], FrameFault); 4] = [
+        // the inode does not fit
+        (b"\x00\x00\x00\x05\x02\x00\x00\x00\x00", FrameFault::Bad(5)),
+        // an inode that is cut
+        (
+            b"\x00\x00\x00\x09\x02\x00\x00\x00\x00\x00\x00\x00",
+            FrameFault::Short,
+        ),
+        // a byte after the inode, which is missing
+        (
+            b"\x00\x00\x00\x0a\x02\x00\x00\x00\x00\x00\x00\x00\x01",
+            FrameFault::Bad(13),
+        ),
+        // a code that is none
+        (b"\x00\x00\x00\x01\x01", FrameFault::Bad(4)),
+    ];
+    for (bytes, fault) in ops {
+        assert_eq!(rt;
+            decode_op(rt.alloc(), bytes).err(),
+            Some(fault),
+            "{bytes:?}"
+        );
+    }
+}
