@@ -13,10 +13,9 @@ pub fn create_write_read()
         record { pass = 1; now = 5; op = Create 1 (codes "a") 420 0 0 }
         ∷ record { pass = 1; now = 6; op = Write 1 0 (codes "abc") }
         ∷ record { pass = 1; now = 7; op = Read 1 0 10 } ∷ [])
-      ≡ replies.Opened 1 (record { inode = 3; kind = kinds.Regular; mode = 420; uid = 0; gid = 0; links = 1; size = 0; mtime = 5; ctime = 5; locked = false })
+        ≡ replies.Opened 1 (record { inode = 3; kind = kinds.Regular; mode = 420; uid = 0; gid = 0; links = 1; size = 0; mtime = 5; ctime = 5; locked = false })
         ∷ replies.Count 3 ∷ replies.Bytes (codes "abc") ∷ [] }
-{
-}
+{}
 
 /// A write behind the end leaves zeros before it.
 #[tactic(auto, unfolding(crate::specs::Operations::reply_to, crate::specs::Operations::tree_after))]
@@ -28,7 +27,6 @@ pub fn write_past_the_end()
         ∷ record { pass = 1; now = 5; op = Read 1 0 2 }
         ∷ record { pass = 1; now = 5; op = Read 1 4099 5 }
         ∷ record { pass = 2; now = 5; op = Read 1 0 2 } ∷ [])
-      ≡ replies.Opened 1 (record { inode = 3; kind = kinds.Regular; mode = 420; uid = 0; gid = 0; links = 1; size = 0; mtime = 5; ctime = 5; locked = false })
+        ≡ replies.Opened 1 (record { inode = 3; kind = kinds.Regular; mode = 420; uid = 0; gid = 0; links = 1; size = 0; mtime = 5; ctime = 5; locked = false })
         ∷ replies.Count 5 ∷ replies.Bytes (codes "hello") ∷ replies.Bytes (0 ∷ 0 ∷ []) ∷ replies.Bytes [] ∷ replies.Errno (record { 0 = 9 }) ∷ [] }
-{
-}
+{}

@@ -1,0 +1,161 @@
+-- The output of a replay, turn after turn.
+use Rattle.std.proofs.Common.{◌≡◌, ℕ, List, [], ◌∷◌, ◌++◌, take, drop, Option, Some, refl, sym, ap, subst, ◌∙◌, append_assoc, arith, inl, ⊎_elim}
+use Rattle.std.proofs.lemmas.List.{append-nil, take-append-drop}
+use Rattle.std.proofs.lemmas.List.Concat.{flat_map-cons}
+use Rattle.std.specs.List.{flat_map}
+use Rattle.s3_base.specs.Stream.{Stream, Appends, AppendsFront}
+use Rattle.op_frames.specs.declared.reply.Reply.{Reply}
+use Rattle.op_frames.specs.Answers.{answer_frame, bad_input_frame}
+use Rattle.op_frames.specs.Replay.{Request, Replay, Verdict, Ended, Refused, ended, with_call, replay_of}
+use Rattle.plain_tree.specs.Tree.{Tree, made_tree}
+use Rattle.plain_tree.specs.Operations.{tree_after}
+use Rattle.plain_tree.specs.Calls.{replies_to, Answers, IsAnswer}
+use Rattle.offline_tool.specs.declared.reader.Next.{Next}
+use Rattle.offline_tool.specs.declared.reader.Next.TheVariants as next
+use Rattle.offline_tool.specs.declared.reader.Stop.{Stop}
+use Rattle.offline_tool.specs.declared.reader.Stop.TheVariants.{Fault, Memory}
+use Rattle.offline_tool.specs.declared.replay.Turn.{Turn}
+use Rattle.offline_tool.specs.declared.replay.Turn.TheVariants.{On}
+use Rattle.offline_tool.specs.Input.{replay_left}
+use Rattle.offline_tool.specs.Reading.{IsNext}
+use Rattle.offline_tool.specs.Output.{verdict_frame, output_of, IsOutputOf, IsReplayOutput, EndsWith, GoesOn}
+use Rattle.offline_tool.specs.Turns.{stopped_turn, KeepsOutput}
+
+-- ---- outputs
+
+-- the rules' own replies are always allowed
+plain_answers : (t : Tree) (calls : List Request) → Answers t calls (replies_to t calls)
+plain_answers t [] = tt
+plain_answers t (call ∷ calls) = (tree_after t call.pass call.op call.now, inl (refl, refl), plain_answers (tree_after t call.pass call.op call.now) calls)
+
+some_output : (t : Tree) (left : Replay) → IsOutputOf t left (output_of (replies_to t left.calls) left.verdict)
+some_output t left = (replies_to t left.calls, plain_answers t left.calls, refl)
+
+call_output : (t after : Tree) (call : Request) (reply : Reply) (left : Replay) (rest : List ℕ) → IsAnswer t call reply after → IsOutputOf after left rest → IsOutputOf t (with_call call left) (answer_frame reply ++ rest)
+call_output t after call reply left rest answer output =
+    let frame = answer_frame reply in
+    let others = flat_map answer_frame output.0 in
+    let shape : frame ++ rest ≡ output_of (reply ∷ output.0) left.verdict =
+    ap (λ (r : List ℕ). frame ++ r) output.2 ∙ sym (append_assoc frame others (verdict_frame left.verdict)) ∙ ap (λ (r : List ℕ). r ++ verdict_frame left.verdict) (sym (flat_map-cons answer_frame reply output.0)) in
+    (reply ∷ output.0, (after, answer, output.1), shape)
+
+-- ---- how an output goes on
+
+goes_call : (size : ℕ) (input out : List ℕ) (t after : Tree) (call : Request) (reply : Reply) (left behind : Replay) → left ≡ with_call call behind → IsAnswer t call reply after → GoesOn size input t left out → GoesOn size input after behind (out ++ answer_frame reply)
+goes_call size input out t after call reply left behind same answer goes = λ rest output.
+    subst (IsReplayOutput size input) (sym (append_assoc out (answer_frame reply) rest))
+    (goes (answer_frame reply ++ rest) (subst (λ (r : Replay). IsOutputOf t r (answer_frame reply ++ rest)) (sym same) (call_output t after call reply behind rest answer output)))
+
+-- some output of the whole begins with what was written
+HasFront : ℕ → List ℕ → List ℕ → Type 0
+HasFront size input out = (rest : List ℕ) × IsReplayOutput size input (out ++ rest)
+
+has_front : (size : ℕ) (input out : List ℕ) (t : Tree) (left : Replay) → GoesOn size input t left out → HasFront size input out
+unfolding HasFront
+has_front size input out t left goes = (output_of (replies_to t left.calls) left.verdict, goes _ (some_output t left))
+
+-- a front of what is appended next
+cut_front : (size n : ℕ) (input out frame : List ℕ) → HasFront size input (out ++ frame) → HasFront size input (out ++ take n frame)
+unfolding HasFront
+cut_front size n input out frame whole =
+    let split : (out ++ frame) ++ whole.0 ≡ (out ++ take n frame) ++ (drop n frame ++ whole.0) =
+    ap (λ (f : List ℕ). (out ++ f) ++ whole.0) (sym (take-append-drop n frame)) ∙ ap (λ (f : List ℕ). f ++ whole.0) (sym (append_assoc out (take n frame) (drop n frame))) ∙ append_assoc (out ++ take n frame) (drop n frame) whole.0 in
+    (drop n frame ++ whole.0, subst (IsReplayOutput size input) split whole.1)
+
+end_output : (size : ℕ) (input out : List ℕ) (t : Tree) (left : Replay) (verdict : Verdict) → left ≡ ended verdict → GoesOn size input t left out → IsReplayOutput size input (out ++ verdict_frame verdict)
+end_output size input out t left verdict same goes = goes (verdict_frame verdict) (subst (λ (r : Replay). IsOutputOf t r (verdict_frame verdict)) (sym same) ([], tt, refl))
+
+-- ---- what the sink has
+
+appended : (frame before out : List ℕ) (old new : Option (List ℕ)) → old ≡ Some (before ++ out) → Appends frame old new → new ≡ Some (before ++ (out ++ frame))
+appended frame before out old new is appends =
+    let one : new ≡ Some ((before ++ out) ++ frame) = subst (λ (o : Option (List ℕ)). Appends frame o new) is appends in
+    one ∙ ap Some (append_assoc before out frame)
+
+cut_appended : (frame before out : List ℕ) (old new : Option (List ℕ)) → old ≡ Some (before ++ out) → AppendsFront frame old new → (n : ℕ) × (new ≡ Some (before ++ (out ++ take n frame)))
+cut_appended frame before out old new is appends =
+    let one = subst (λ (o : Option (List ℕ)). AppendsFront frame o new) is appends in
+    (one.0, one.2 ∙ ap Some (append_assoc before out (take one.0 frame)))
+
+-- ---- the turns
+
+pub stops : (size : ℕ) (input before out : List ℕ) (t : Tree) (stop : Stop) (turn : Turn) (after : Option Stream) (written : Option (List ℕ)) → turn ≡ stopped_turn stop → written ≡ Some (before ++ out) → (rest : List ℕ) × IsReplayOutput size input (out ++ rest)
+    → KeepsOutput turn size input t before after written
+stops size input before out t Fault turn after written same is front =
+    subst (λ (x : Turn). KeepsOutput x size input t before after written) (sym same) (out, is, record { whole = ⊎_elim (λ e. absurd (omega (arith, e))) (λ e. absurd (omega (arith, e))); front = front })
+stops size input before out t Memory turn after written same is front =
+    subst (λ (x : Turn). KeepsOutput x size input t before after written) (sym same) (out, is, record { whole = ⊎_elim (λ e. absurd (omega (arith, e))) (λ e. absurd (omega (arith, e))); front = front })
+
+-- a call that was answered
+pub goes_on : (size : ℕ) (input before out : List ℕ) (t later : Tree) (place behind : ℕ) (s : Stream) (call : Request) (reply : Reply) (x : Next) (after : Option Stream) (old new : Option (List ℕ))
+    → x ≡ next.Call call.pass call.now call.op behind → (u : Stream) × (after ≡ Some u) × IsNext x place s u → IsAnswer t call reply later → old ≡ Some (before ++ out) → Appends (answer_frame reply) old new
+    → GoesOn size input t (replay_left place s) out → KeepsOutput (On behind) size input later before after new
+goes_on size input before out t later place behind s call reply x after old new same following answer is appends goes =
+    let u = following.0 in
+    let left : replay_left place s ≡ with_call call (replay_left behind u) = subst (λ (y : Next). IsNext y place s u) same following.2 in
+    (u, out ++ answer_frame reply, following.1, appended (answer_frame reply) before out old new is appends, goes_call size input out t later call reply (replay_left place s) (replay_left behind u) left answer goes)
+
+-- a call whose answer was not written whole
+pub answer_cut : (size : ℕ) (input before out : List ℕ) (t later : Tree) (place behind : ℕ) (s : Stream) (call : Request) (reply : Reply) (x : Next) (stop : Stop) (turn : Turn) (after : Option Stream) (old new : Option (List ℕ))
+    → x ≡ next.Call call.pass call.now call.op behind → (u : Stream) × (after ≡ Some u) × IsNext x place s u → IsAnswer t call reply later → old ≡ Some (before ++ out) → AppendsFront (answer_frame reply) old new → turn ≡ stopped_turn stop
+    → GoesOn size input t (replay_left place s) out → KeepsOutput turn size input later before after new
+unfolding HasFront
+answer_cut size input before out t later place behind s call reply x stop turn after old new same following answer is appends ends goes =
+    let u = following.0 in
+    let left : replay_left place s ≡ with_call call (replay_left behind u) = subst (λ (y : Next). IsNext y place s u) same following.2 in
+    let cut = cut_appended (answer_frame reply) before out old new is appends in
+    let front = has_front size input (out ++ answer_frame reply) later (replay_left behind u) (goes_call size input out t later call reply (replay_left place s) (replay_left behind u) left answer goes) in
+    stops size input before (out ++ take cut.0 (answer_frame reply)) later stop turn after new ends cut.1 (cut_front size cut.0 input out (answer_frame reply) front)
+
+-- the end of the input
+pub is_ended : (size : ℕ) (input before out : List ℕ) (t : Tree) (place : ℕ) (s : Stream) (x : Next) (after : Option Stream) (old : Option (List ℕ)) → x ≡ next.End → (u : Stream) × (after ≡ Some u) × IsNext x place s u → old ≡ Some (before ++ out)
+    → GoesOn size input t (replay_left place s) out → (final : List ℕ) × (old ≡ Some (before ++ final)) × EndsWith size input 0 final
+unfolding HasFront
+is_ended size input before out t place s x after old same following is goes =
+    let left : replay_left place s ≡ ended Ended = subst (λ (y : Next). IsNext y place s following.0) same following.2 in
+    let output = subst (IsReplayOutput size input) (append-nil out) (end_output size input out t (replay_left place s) Ended left goes) in
+    (out, is, record { whole = λ _. output; front = has_front size input out t (replay_left place s) goes })
+
+-- an input that is refused
+pub is_refused : (size : ℕ) (input before out : List ℕ) (t : Tree) (place at : ℕ) (s : Stream) (x : Next) (after : Option Stream) (old new : Option (List ℕ)) → x ≡ next.Refused at → (u : Stream) × (after ≡ Some u) × IsNext x place s u
+    → old ≡ Some (before ++ out) → Appends (bad_input_frame at) old new → GoesOn size input t (replay_left place s) out → (final : List ℕ) × (new ≡ Some (before ++ final)) × EndsWith size input 4 final
+is_refused size input before out t place at s x after old new same following is appends goes =
+    let left : replay_left place s ≡ ended (Refused at) = subst (λ (y : Next). IsNext y place s following.0) same following.2 in
+    let output = end_output size input out t (replay_left place s) (Refused at) left goes in
+    (out ++ bad_input_frame at, appended (bad_input_frame at) before out old new is appends, record { whole = λ _. output; front = ([], subst (IsReplayOutput size input) (sym (append-nil (out ++ bad_input_frame at))) output) })
+
+pub refusal_cut : (size : ℕ) (input before out : List ℕ) (t : Tree) (place at : ℕ) (s : Stream) (x : Next) (stop : Stop) (turn : Turn) (after : Option Stream) (old new : Option (List ℕ)) → x ≡ next.Refused at → (u : Stream) × (after ≡ Some u) × IsNext x place s u
+    → old ≡ Some (before ++ out) → AppendsFront (bad_input_frame at) old new → turn ≡ stopped_turn stop → GoesOn size input t (replay_left place s) out → KeepsOutput turn size input t before after new
+unfolding HasFront
+refusal_cut size input before out t place at s x stop turn after old new same following is appends ends goes =
+    let left : replay_left place s ≡ ended (Refused at) = subst (λ (y : Next). IsNext y place s following.0) same following.2 in
+    let output = end_output size input out t (replay_left place s) (Refused at) left goes in
+    let cut = cut_appended (bad_input_frame at) before out old new is appends in
+    stops size input before (out ++ take cut.0 (bad_input_frame at)) t stop turn after new ends cut.1
+    (cut_front size cut.0 input out (bad_input_frame at) ([], subst (IsReplayOutput size input) (sym (append-nil (out ++ bad_input_frame at))) output))
+
+-- nothing was read
+pub read_cut : (size : ℕ) (input before out : List ℕ) (t : Tree) (left : Replay) (stop : Stop) (turn : Turn) (after : Option Stream) (old : Option (List ℕ)) → old ≡ Some (before ++ out) → turn ≡ stopped_turn stop → GoesOn size input t left out
+    → KeepsOutput turn size input t before after old
+unfolding HasFront
+read_cut size input before out t left stop turn after old is ends goes = stops size input before out t stop turn after old ends is (has_front size input out t left goes)
+
+-- ---- the whole replay
+
+-- nothing was done
+pub not_begun : (size : ℕ) (input before : List ℕ) (written : Option (List ℕ)) → written ≡ Some before → (out : List ℕ) × (written ≡ Some (before ++ out)) × EndsWith size input 3 out
+not_begun size input before written is =
+    let left : Replay = replay_of input in (
+      [],
+      is ∙ ap Some (sym (append-nil before)),
+      record {
+        whole = ⊎_elim (λ e. absurd (omega (arith, e))) (λ e. absurd (omega (arith, e)));
+        front = (output_of (replies_to (made_tree size 0) left.calls) left.verdict, some_output (made_tree size 0) left);
+      },
+    )
+
+pub begins : (size : ℕ) (input : List ℕ) (t : Tree) → t ≡ made_tree size 0 → GoesOn size input t (replay_of input) []
+begins size input t made = λ rest output. subst (λ (u : Tree). IsOutputOf u (replay_of input) rest) made output
+
+pub nothing_more : (before : List ℕ) (written : Option (List ℕ)) → written ≡ Some before → written ≡ Some (before ++ [])
+nothing_more before written is = is ∙ ap Some (sym (append-nil before))

@@ -1,0 +1,10 @@
+//! The commands that need no server: now `replay` alone.
+#![tactic(auto)]
+
+mod command;
+mod frames;
+mod reader;
+mod replay;
+mod words;
+
+pub use command::run;
