@@ -31,7 +31,7 @@ new_file mode uid gid now = record { mode = mode; uid = uid; gid = gid; mtime = 
 abbrev pub with_new_file : Tree → ℕ → ℕ → List ℕ → Node → ℕ → Tree
 with_new_file t pass parent name file now =
     change_node parent (λ node. touched now (record node { content = named name t.next_inode node.content }))
-      (with_node file (with_handle (record { inode = t.next_inode; pass = pass }) t))
+    (with_node file (with_handle (record { inode = t.next_inode; pass = pass }) t))
 
 -- the tree after an operation whose checks all pass
 abbrev pub effect : Tree → ℕ → Op → ℕ → Tree
