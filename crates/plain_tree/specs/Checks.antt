@@ -2,7 +2,7 @@
 use Rattle.std.specs.Prelude.{ℕ, ◌+◌, ◌^◌, ◌==◌, List, [], ◌∷◌, length, Bool, ◌||◌, nat_lt, nat_le, nat_eq, Option, None, Some, is_some, if◌then◌else◌}
 use Rattle.std.specs.List.{list_any}
 use Rattle.std.specs.Cmp.Lexicographic.{pointwise}
-use Rattle.plain_tree.specs.Tree.{Content, Regular, Directory, Link, Node, Handle, Tree, node_at, entry_of, handle_of}
+use Rattle.plain_tree.specs.Tree.{Regular, Directory, Link, Node, Tree, entry_of}
 
 -- fails with this error where the test is true
 abbrev pub fails_with : ℕ → Bool → Option ℕ

@@ -4,7 +4,7 @@ use Rattle.op_frames.specs.declared.operation.Op.{Op}
 use Rattle.op_frames.specs.declared.operation.Op.TheVariants.{Getattr, Create, Read, Write}
 use Rattle.op_frames.specs.declared.reply.Reply.{Reply}
 use Rattle.op_frames.specs.declared.reply.Reply.TheVariants as replies
-use Rattle.plain_tree.specs.Tree.{Content, Regular, Node, Handle, Tree, node_at, handle_of, with_node, with_handle, change_node, named, touched}
+use Rattle.plain_tree.specs.Tree.{Regular, Node, Tree, node_at, handle_of, with_node, with_handle, change_node, named, touched}
 use Rattle.plain_tree.specs.Attributes.{attr_of}
 use Rattle.plain_tree.specs.Checks.{first_failure, name_check, mode_check, node_check, directory_check, lock_check, free_check, ids_check, hand_check, open_check, read_length_check, write_end_check}
 use Rattle.plain_tree.specs.Files.{written_at, read_at, open_file, inode_of, with_bytes}

@@ -3,4 +3,4 @@
 
 mod rows;
 
-pub use rows::{create_write_read, write_past_the_end};
+pub use rows::{create_write_read, names_are_checked, write_past_the_end};
