@@ -1,10 +1,10 @@
 -- The laws of the operations and of the steps of a replay. Each operation has its line in `Operations`: its fields, its
 -- place in the table of codes, and its spelling.
-use Rattle.std.proofs.Common.{◌≡◌, ℕ, ◌+◌, ◌-◌, ◌^◌, ◌≤◌, true, ◌||◌, eqb, ltb, leb, [], length, Ok, refl, ap₂, arith}
+use Rattle.std.proofs.Common.{◌≡◌, ℕ, suc, ◌+◌, ◌-◌, ◌^◌, ◌≤◌, Bool, true, false, ◌||◌, eqb, ltb, leb, List, [], ◌∷◌, length, Ok, refl, ap, ap₂, arith}
 use Rattle.std.proofs.Math.Bool.{or_assoc, or_comm}
 use Rattle.std.proofs.lemmas.Bool.{and_parts, ltb-true, leb-true}
 use Rattle.op_frames.specs.declared.operation.Op.{Op}
-use Rattle.op_frames.specs.declared.operation.Op.TheVariants.{Getattr, Create, Read, Write}
+use Rattle.op_frames.specs.declared.operation.Op.TheVariants.{Lookup, Getattr, Chmod, Chown, Utimes, Truncate, Mkdir, Create, Unlink, Rmdir, Rename, Link, Symlink, Readlink, Open, Release, Read, Write, Fsync, Readdir, Statfs, Setxattr, Getxattr, Listxattr, Removexattr, CopyTree, LockTree, RemoveTree, FlushCache, UploadMeta, CacheSize, Leave, Unmount}
 use Rattle.op_frames.specs.declared.operation.Step.{Step}
 use Rattle.op_frames.specs.declared.operation.Step.TheVariants.{Call, End}
 use Rattle.op_frames.specs.Format.{Format, ◌▸◌, always, between}
@@ -70,12 +70,54 @@ op_reads : Reads op_spelling is_op is_operation op_behind
 unfolding op_behind
 op_reads = known_as operations_same (or_case getattr (or_case create (or_case read (only_case write))))
 
+not_both : (b : Bool) → b ≡ true → b ≡ false → ⊥
+not_both b is other = cc
+
+-- an operation that is not read now
+unread : (op : Op) (code : ℕ) (text : List ℕ) → op_spelling op ≡ code ∷ text → is_op op ≡ false → Written 250000 op_spelling is_op is_operation op_behind op
+unread op code text spelled never =
+    let len : length (op_spelling op) ≡ suc (length text) = ap (λ (t : List ℕ). length t) spelled in
+    record {
+      again = λ place room rest is le. absurd (not_both (is_op op) is never);
+      some = omega (arith, len);
+      bounded = λ is. absurd (not_both (is_op op) is never);
+    }
+
 op_written : (op : Op) → Written 250000 op_spelling is_op is_operation op_behind op
 unfolding op_behind
 op_written (Getattr inode) = write_case is_operation op_behind getattr inode refl (λ r. refl)
 op_written (Create parent name mode uid gid) = write_case is_operation op_behind create (parent, (name, (mode, (uid, gid)))) refl (λ r. refl)
 op_written (Read handle offset length) = write_case is_operation op_behind read (handle, (offset, length)) refl (λ r. refl)
 op_written (Write handle offset bytes) = write_case is_operation op_behind write (handle, (offset, bytes)) refl (λ r. refl)
+op_written (Lookup parent name) = unread (Lookup parent name) _ _ refl refl
+op_written (Chmod inode mode) = unread (Chmod inode mode) _ _ refl refl
+op_written (Chown inode uid gid) = unread (Chown inode uid gid) _ _ refl refl
+op_written (Utimes inode mtime) = unread (Utimes inode mtime) _ _ refl refl
+op_written (Truncate inode size) = unread (Truncate inode size) _ _ refl refl
+op_written (Mkdir parent name mode uid gid) = unread (Mkdir parent name mode uid gid) _ _ refl refl
+op_written (Unlink parent name) = unread (Unlink parent name) _ _ refl refl
+op_written (Rmdir parent name) = unread (Rmdir parent name) _ _ refl refl
+op_written (Rename parent name new_parent new_name) = unread (Rename parent name new_parent new_name) _ _ refl refl
+op_written (Link inode parent name) = unread (Link inode parent name) _ _ refl refl
+op_written (Symlink parent name target uid gid) = unread (Symlink parent name target uid gid) _ _ refl refl
+op_written (Readlink inode) = unread (Readlink inode) _ _ refl refl
+op_written (Open inode) = unread (Open inode) _ _ refl refl
+op_written (Release handle) = unread (Release handle) _ _ refl refl
+op_written (Fsync handle) = unread (Fsync handle) _ _ refl refl
+op_written (Readdir inode after max) = unread (Readdir inode after max) _ _ refl refl
+op_written Statfs = unread Statfs _ _ refl refl
+op_written (Setxattr inode name flag value) = unread (Setxattr inode name flag value) _ _ refl refl
+op_written (Getxattr inode name) = unread (Getxattr inode name) _ _ refl refl
+op_written (Listxattr inode after max) = unread (Listxattr inode after max) _ _ refl refl
+op_written (Removexattr inode name) = unread (Removexattr inode name) _ _ refl refl
+op_written (CopyTree source parent name) = unread (CopyTree source parent name) _ _ refl refl
+op_written (LockTree inode) = unread (LockTree inode) _ _ refl refl
+op_written (RemoveTree parent name) = unread (RemoveTree parent name) _ _ refl refl
+op_written FlushCache = unread FlushCache _ _ refl refl
+op_written UploadMeta = unread UploadMeta _ _ refl refl
+op_written (CacheSize entries) = unread (CacheSize entries) _ _ refl refl
+op_written Leave = unread Leave _ _ refl refl
+op_written Unmount = unread Unmount _ _ refl refl
 
 pub op_is : IsFormat op_field 250001
 unfolding op_field operation_field

@@ -1,9 +1,11 @@
 -- The operations, their codes and their fields in order.
-use Rattle.std.specs.Prelude.{ℕ, ◌-◌, ◌^◌, ◌==◌, List, ◌∷◌, Bool, true, [], ◌||◌, if◌then◌else◌, Result, Ok}
+use Rattle.std.specs.Prelude.{ℕ, ◌-◌, ◌^◌, ◌==◌, List, ◌∷◌, Bool, true, [], ◌&&◌, ◌||◌, if◌then◌else◌, Result, Ok}
 use Rattle.std.specs.Int.{w16, w32, w64}
 use Rattle.op_frames.specs.declared.fault.FrameFault.{FrameFault}
 use Rattle.op_frames.specs.declared.operation.Op.{Op}
-use Rattle.op_frames.specs.declared.operation.Op.TheVariants.{Getattr, Create, Read, Write}
+use Rattle.op_frames.specs.declared.operation.Op.TheVariants.{Lookup, Getattr, Chmod, Chown, Utimes, Truncate, Mkdir, Create, Unlink, Rmdir, Rename, Link, Symlink, Readlink, Open, Release, Read, Write, Fsync, Readdir, Statfs, Setxattr, Getxattr, Listxattr, Removexattr, CopyTree, LockTree, RemoveTree, FlushCache, UploadMeta, CacheSize, Leave, Unmount}
+use Rattle.op_frames.specs.declared.operation.SetFlag.{SetFlag}
+use Rattle.op_frames.specs.declared.operation.SetFlag.TheVariants as flags
 use Rattle.op_frames.specs.declared.operation.Step.{Step}
 use Rattle.op_frames.specs.declared.operation.Step.TheVariants.{Call, End}
 use Rattle.op_frames.specs.Format.{Rest, Format, ◌>>=◌, byte, number, counted, ◌▸◌, made, always, between}
@@ -19,11 +21,11 @@ u32_field = number w32 always
 unfoldable pub u64_field : Format ℕ
 u64_field = number w64 always
 
--- a name: two bytes of length
+-- a name, or the target of a link: two bytes of length
 unfoldable pub name_field : Format (List ℕ)
 name_field = counted u16_field
 
--- the data of a read or a write: four bytes of length, at most 131,072
+-- the data of a read or a write, or an attribute's value: four bytes of length, at most 131,072
 unfoldable pub data_length_field : Format ℕ
 data_length_field = number w32 (between 0 131072)
 
@@ -38,13 +40,55 @@ pass_field = number w64 (between 1 (2 ^ 62 - 1))
 unfoldable pub time_field : Format ℕ
 time_field = number w64 (between 0 (2 ^ 62 - 1))
 
+-- which attributes may be set: any, only a new one, or only an old one
+abbrev pub set_flag_code : SetFlag → ℕ
+set_flag_code flags.Any = 0
+set_flag_code flags.New = 1
+set_flag_code flags.Old = 2
+
+abbrev pub set_flag_of : ℕ → SetFlag
+set_flag_of code = if code == 0 then flags.Any else (if code == 1 then flags.New else flags.Old)
+
+unfoldable pub set_flag_field : Format SetFlag
+set_flag_field = record {
+  spell = λ flag. set_flag_code flag ∷ [];
+  allows = λ flag. true;
+  read = λ r. made set_flag_of ((byte (between 0 2)).read r);
+}
+
 -- ---- operations
 
+-- of lookup, unlink, rmdir, getxattr, removexattr and remove_tree
+abbrev pub lookup_fields : Format (ℕ × List ℕ)
+lookup_fields = u64_field ▸ name_field
+
+-- of getattr, readlink, open, release, fsync and lock_tree
 abbrev pub getattr_fields : Format ℕ
 getattr_fields = u64_field
 
+abbrev pub chmod_fields : Format (ℕ × ℕ)
+chmod_fields = u64_field ▸ u16_field
+
+abbrev pub chown_fields : Format (ℕ × (ℕ × ℕ))
+chown_fields = u64_field ▸ u32_field ▸ u32_field
+
+-- of utimes and truncate
+abbrev pub utimes_fields : Format (ℕ × ℕ)
+utimes_fields = u64_field ▸ u64_field
+
+-- of mkdir and create
 abbrev pub create_fields : Format (ℕ × (List ℕ × (ℕ × (ℕ × ℕ))))
 create_fields = u64_field ▸ name_field ▸ u16_field ▸ u32_field ▸ u32_field
+
+abbrev pub rename_fields : Format (ℕ × (List ℕ × (ℕ × List ℕ)))
+rename_fields = u64_field ▸ name_field ▸ u64_field ▸ name_field
+
+-- of link and copy_tree
+abbrev pub link_fields : Format (ℕ × (ℕ × List ℕ))
+link_fields = u64_field ▸ u64_field ▸ name_field
+
+abbrev pub symlink_fields : Format (ℕ × (List ℕ × (List ℕ × (ℕ × ℕ))))
+symlink_fields = u64_field ▸ name_field ▸ name_field ▸ u32_field ▸ u32_field
 
 abbrev pub read_fields : Format (ℕ × (ℕ × ℕ))
 read_fields = u64_field ▸ u64_field ▸ u32_field
@@ -52,7 +96,53 @@ read_fields = u64_field ▸ u64_field ▸ u32_field
 abbrev pub write_fields : Format (ℕ × (ℕ × List ℕ))
 write_fields = u64_field ▸ u64_field ▸ data_field
 
--- the codes of the operations
+-- of readdir and listxattr
+abbrev pub readdir_fields : Format (ℕ × (List ℕ × ℕ))
+readdir_fields = u64_field ▸ name_field ▸ u16_field
+
+abbrev pub setxattr_fields : Format (ℕ × (List ℕ × (SetFlag × List ℕ)))
+setxattr_fields = u64_field ▸ name_field ▸ set_flag_field ▸ data_field
+
+abbrev pub cache_size_fields : Format ℕ
+cache_size_fields = u32_field
+
+-- the code of an operation
+abbrev pub op_code : Op → ℕ
+op_code (Lookup _ _) = 1
+op_code (Getattr _) = 2
+op_code (Chmod _ _) = 3
+op_code (Chown _ _ _) = 4
+op_code (Utimes _ _) = 5
+op_code (Truncate _ _) = 6
+op_code (Mkdir _ _ _ _ _) = 7
+op_code (Create _ _ _ _ _) = 8
+op_code (Unlink _ _) = 9
+op_code (Rmdir _ _) = 10
+op_code (Rename _ _ _ _) = 11
+op_code (Link _ _ _) = 12
+op_code (Symlink _ _ _ _ _) = 13
+op_code (Readlink _) = 14
+op_code (Open _) = 15
+op_code (Release _) = 16
+op_code (Read _ _ _) = 17
+op_code (Write _ _ _) = 18
+op_code (Fsync _) = 19
+op_code (Readdir _ _ _) = 20
+op_code Statfs = 21
+op_code (Setxattr _ _ _ _) = 22
+op_code (Getxattr _ _) = 23
+op_code (Listxattr _ _ _) = 24
+op_code (Removexattr _ _) = 25
+op_code (CopyTree _ _ _) = 26
+op_code (LockTree _) = 27
+op_code (RemoveTree _ _) = 28
+op_code FlushCache = 29
+op_code UploadMeta = 30
+op_code (CacheSize _) = 31
+op_code Leave = 32
+op_code Unmount = 33
+
+-- the codes of the operations that are read now
 abbrev pub is_operation : ℕ → Bool
 is_operation code = code == 2 || code == 8 || code == 17 || code == 18
 
@@ -61,19 +151,81 @@ operation_field = byte is_operation
 
 -- the code of an operation, and its fields
 abbrev pub op_spelling : Op → List ℕ
+op_spelling (Lookup parent name) = 1 ∷ lookup_fields.spell (parent, name)
 op_spelling (Getattr inode) = 2 ∷ getattr_fields.spell inode
+op_spelling (Chmod inode mode) = 3 ∷ chmod_fields.spell (inode, mode)
+op_spelling (Chown inode uid gid) = 4 ∷ chown_fields.spell (inode, (uid, gid))
+op_spelling (Utimes inode mtime) = 5 ∷ utimes_fields.spell (inode, mtime)
+op_spelling (Truncate inode size) = 6 ∷ utimes_fields.spell (inode, size)
+op_spelling (Mkdir parent name mode uid gid) = 7 ∷ create_fields.spell (parent, (name, (mode, (uid, gid))))
 op_spelling (Create parent name mode uid gid) = 8 ∷ create_fields.spell (parent, (name, (mode, (uid, gid))))
+op_spelling (Unlink parent name) = 9 ∷ lookup_fields.spell (parent, name)
+op_spelling (Rmdir parent name) = 10 ∷ lookup_fields.spell (parent, name)
+op_spelling (Rename parent name new_parent new_name) = 11 ∷ rename_fields.spell (parent, (name, (new_parent, new_name)))
+op_spelling (Link inode parent name) = 12 ∷ link_fields.spell (inode, (parent, name))
+op_spelling (Symlink parent name target uid gid) = 13 ∷ symlink_fields.spell (parent, (name, (target, (uid, gid))))
+op_spelling (Readlink inode) = 14 ∷ getattr_fields.spell inode
+op_spelling (Open inode) = 15 ∷ getattr_fields.spell inode
+op_spelling (Release handle) = 16 ∷ getattr_fields.spell handle
 op_spelling (Read handle offset length) = 17 ∷ read_fields.spell (handle, (offset, length))
 op_spelling (Write handle offset bytes) = 18 ∷ write_fields.spell (handle, (offset, bytes))
+op_spelling (Fsync handle) = 19 ∷ getattr_fields.spell handle
+op_spelling (Readdir inode after max) = 20 ∷ readdir_fields.spell (inode, (after, max))
+op_spelling Statfs = 21 ∷ []
+op_spelling (Setxattr inode name flag value) = 22 ∷ setxattr_fields.spell (inode, (name, (flag, value)))
+op_spelling (Getxattr inode name) = 23 ∷ lookup_fields.spell (inode, name)
+op_spelling (Listxattr inode after max) = 24 ∷ readdir_fields.spell (inode, (after, max))
+op_spelling (Removexattr inode name) = 25 ∷ lookup_fields.spell (inode, name)
+op_spelling (CopyTree source parent name) = 26 ∷ link_fields.spell (source, (parent, name))
+op_spelling (LockTree inode) = 27 ∷ getattr_fields.spell inode
+op_spelling (RemoveTree parent name) = 28 ∷ lookup_fields.spell (parent, name)
+op_spelling FlushCache = 29 ∷ []
+op_spelling UploadMeta = 30 ∷ []
+op_spelling (CacheSize entries) = 31 ∷ cache_size_fields.spell entries
+op_spelling Leave = 32 ∷ []
+op_spelling Unmount = 33 ∷ []
 
 -- its fields are within their rules
-abbrev pub is_op : Op → Bool
-is_op (Getattr inode) = getattr_fields.allows inode
-is_op (Create parent name mode uid gid) = create_fields.allows (parent, (name, (mode, (uid, gid))))
-is_op (Read handle offset length) = read_fields.allows (handle, (offset, length))
-is_op (Write handle offset bytes) = write_fields.allows (handle, (offset, bytes))
+abbrev pub has_allowed_fields : Op → Bool
+has_allowed_fields (Lookup parent name) = lookup_fields.allows (parent, name)
+has_allowed_fields (Getattr inode) = getattr_fields.allows inode
+has_allowed_fields (Chmod inode mode) = chmod_fields.allows (inode, mode)
+has_allowed_fields (Chown inode uid gid) = chown_fields.allows (inode, (uid, gid))
+has_allowed_fields (Utimes inode mtime) = utimes_fields.allows (inode, mtime)
+has_allowed_fields (Truncate inode size) = utimes_fields.allows (inode, size)
+has_allowed_fields (Mkdir parent name mode uid gid) = create_fields.allows (parent, (name, (mode, (uid, gid))))
+has_allowed_fields (Create parent name mode uid gid) = create_fields.allows (parent, (name, (mode, (uid, gid))))
+has_allowed_fields (Unlink parent name) = lookup_fields.allows (parent, name)
+has_allowed_fields (Rmdir parent name) = lookup_fields.allows (parent, name)
+has_allowed_fields (Rename parent name new_parent new_name) = rename_fields.allows (parent, (name, (new_parent, new_name)))
+has_allowed_fields (Link inode parent name) = link_fields.allows (inode, (parent, name))
+has_allowed_fields (Symlink parent name target uid gid) = symlink_fields.allows (parent, (name, (target, (uid, gid))))
+has_allowed_fields (Readlink inode) = getattr_fields.allows inode
+has_allowed_fields (Open inode) = getattr_fields.allows inode
+has_allowed_fields (Release handle) = getattr_fields.allows handle
+has_allowed_fields (Read handle offset length) = read_fields.allows (handle, (offset, length))
+has_allowed_fields (Write handle offset bytes) = write_fields.allows (handle, (offset, bytes))
+has_allowed_fields (Fsync handle) = getattr_fields.allows handle
+has_allowed_fields (Readdir inode after max) = readdir_fields.allows (inode, (after, max))
+has_allowed_fields Statfs = true
+has_allowed_fields (Setxattr inode name flag value) = setxattr_fields.allows (inode, (name, (flag, value)))
+has_allowed_fields (Getxattr inode name) = lookup_fields.allows (inode, name)
+has_allowed_fields (Listxattr inode after max) = readdir_fields.allows (inode, (after, max))
+has_allowed_fields (Removexattr inode name) = lookup_fields.allows (inode, name)
+has_allowed_fields (CopyTree source parent name) = link_fields.allows (source, (parent, name))
+has_allowed_fields (LockTree inode) = getattr_fields.allows inode
+has_allowed_fields (RemoveTree parent name) = lookup_fields.allows (parent, name)
+has_allowed_fields FlushCache = true
+has_allowed_fields UploadMeta = true
+has_allowed_fields (CacheSize entries) = cache_size_fields.allows entries
+has_allowed_fields Leave = true
+has_allowed_fields Unmount = true
 
--- the fields behind a code
+-- it is read now, and its fields are within their rules
+abbrev pub is_op : Op → Bool
+is_op op = is_operation (op_code op) && has_allowed_fields op
+
+-- the fields behind a code that is read now
 unfoldable pub op_behind : ℕ → Rest → Result (Op × Rest) FrameFault
 op_behind code r =
     if code == 2 then made Getattr (getattr_fields.read r)

@@ -1,10 +1,11 @@
 //! Frames of replies and of a replay's answers.
 ghost use Rattle.std.specs.Prelude.{◌≡◌, ◌++◌, ◌<◌, ◌≤◌, ◌^◌, [], ◌∷◌, length, IsTrue, IfOk, OnOk};
-ghost use Rattle.op_frames.specs.Operations.{u16_field, u32_field, u64_field, data_field};
+ghost use Rattle.std.specs.List.{list_all};
+ghost use Rattle.op_frames.specs.Operations.{u16_field, u32_field, u64_field, name_field, data_field};
 ghost use Rattle.op_frames.specs.Frames.{framed};
-ghost use Rattle.op_frames.specs.Answers.{kind_code, cause_code, flag_code, attr_spelling, reply_spelling, has_short_data, reply_frame, answer_frame, bad_input_frame};
+ghost use Rattle.op_frames.specs.Answers.{kind_code, cause_code, flag_code, attr_spelling, names_spelling, entry_spelling, entries_spelling, reply_spelling, is_short_name, has_short_name, has_short_data, reply_frame, answer_frame, bad_input_frame};
 
-use crate::{Attr, Cause, Kind, Reply};
+use crate::{Attr, Cause, DirEntry, DirEntryList, Kind, NameList, Reply};
 use byteorder::{BigEndian, ByteOrder};
 use s3_base::ByteList;
 use std::alloc::{AllocError, Global};
@@ -88,11 +89,54 @@ fn put_data(out: &mut ByteList, bytes: &ByteList) -> Result<(), AllocError>
     out.extend_from_slice(bytes.as_slice())
 }
 
+#[tactic(auto, unfolding(crate::specs::Operations::name_field))]
+fn put_name(out: &mut ByteList, name: &ByteList) -> Result<(), AllocError>
+    requires { length name.now ≤ 255 }
+    ensures { OnOk result (out.new ≡ out.old ++ name_field.spell name.now) }
+{
+    put_u16(out, name.len() as u16)?;
+    out.extend_from_slice(name.as_slice())
+}
+
+fn put_names(out: &mut ByteList, names: &NameList) -> Result<(), AllocError>
+    requires few { length names.now ≤ 256 }
+    requires short { IsTrue (list_all is_short_name names.now) }
+    ensures { OnOk result (out.new ≡ out.old ++ names_spelling names.now) }
+{
+    put_u16(out, names.len() as u16)?;
+    for name in names.as_slice() {
+        put_name(out, name)?;
+    }
+    Ok(())
+}
+
+fn put_entry(out: &mut ByteList, entry: &DirEntry) -> Result<(), AllocError>
+    requires { length entry.now.name ≤ 255 }
+    ensures { OnOk result (out.new ≡ out.old ++ entry_spelling entry.now) }
+{
+    put_u64(out, entry.inode)?;
+    out.push(code_of_kind(entry.kind))?;
+    put_name(out, &entry.name)
+}
+
+fn put_entries(out: &mut ByteList, entries: &DirEntryList) -> Result<(), AllocError>
+    requires few { length entries.now ≤ 256 }
+    requires short { IsTrue (list_all has_short_name entries.now) }
+    ensures { OnOk result (out.new ≡ out.old ++ entries_spelling entries.now) }
+{
+    put_u16(out, entries.len() as u16)?;
+    for entry in entries.as_slice() {
+        put_entry(out, entry)?;
+    }
+    Ok(())
+}
+
 fn put_reply(out: &mut ByteList, reply: &Reply) -> Result<(), AllocError>
     requires { IsTrue (has_short_data reply.now) }
     ensures { OnOk result (out.new ≡ out.old ++ reply_spelling reply.now) }
 {
     match reply {
+        Reply::Done => out.push(1),
         Reply::Attr(attr) => {
             out.push(2)?;
             put_attr(out, attr)
@@ -109,6 +153,26 @@ fn put_reply(out: &mut ByteList, reply: &Reply) -> Result<(), AllocError>
         Reply::Count(count) => {
             out.push(5)?;
             put_u32(out, *count)
+        }
+        Reply::Entries(entries) => {
+            out.push(6)?;
+            put_entries(out, entries)
+        }
+        Reply::Names(names) => {
+            out.push(7)?;
+            put_names(out, names)
+        }
+        Reply::Stat {
+            block_size,
+            inodes,
+            entries,
+            bytes,
+        } => {
+            out.push(8)?;
+            put_u32(out, *block_size)?;
+            put_u64(out, *inodes)?;
+            put_u64(out, *entries)?;
+            put_u64(out, *bytes)
         }
         Reply::Errno(errno) => {
             out.push(9)?;

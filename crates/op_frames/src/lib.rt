@@ -6,6 +6,7 @@ mod encode;
 mod fault;
 mod fields;
 mod laws;
+mod lists;
 mod operation;
 mod reply;
 
@@ -13,8 +14,9 @@ pub use decode::{decode_call, decode_op};
 pub use encode::{encode_answer, encode_bad_input, encode_reply};
 pub use fault::FrameFault;
 pub use laws::{op_frames_differ, step_frames_differ};
-pub use operation::{Op, Step};
-pub use reply::{Attr, Cause, Kind, Reply};
+pub use lists::{DirEntryList, NameList};
+pub use operation::{Op, SetFlag, Step};
+pub use reply::{Attr, Cause, DirEntry, Kind, Reply};
 
 #[cfg(test)]
 mod tests;

@@ -1,3 +1,4 @@
+use crate::{DirEntryList, NameList};
 use s3_base::{ByteList, Errno};
 
 /// What a node of the tree is.
@@ -32,13 +33,34 @@ pub enum Cause {
     Memory,
 }
 
+/// An entry of a directory.
+#[derive(Debug, Drop)]
+pub struct DirEntry {
+    pub inode: u64,
+    pub kind: Kind,
+    pub name: ByteList,
+}
+
 /// The reply to an operation.
 #[derive(Debug, Drop)]
 pub enum Reply {
+    Done,
     Attr(Attr),
-    Opened { handle: u64, attr: Attr },
+    Opened {
+        handle: u64,
+        attr: Attr,
+    },
     Bytes(ByteList),
     Count(u32),
+    Entries(DirEntryList),
+    Names(NameList),
+    /// The size of a block in bytes, and how many inodes, directory entries and bytes the file system has.
+    Stat {
+        block_size: u32,
+        inodes: u64,
+        entries: u64,
+        bytes: u64,
+    },
     Errno(Errno),
     Fault(Cause),
 }

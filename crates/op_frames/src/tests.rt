@@ -119,10 +119,49 @@ fn replies(rt: HostRuntime) -> Result<(), Fail> {
         errno.as_slice(),
         b"\x00\x00\x00\x03\x09\x00\x09".as_slice()
     );
+    let done = encode_answer(rt.alloc(), &Reply::Done)?;
+    assert_eq!(rt; done.as_slice(), b"\x00\x00\x00\x02\x01\x01".as_slice());
+    // 1 + 1 + 4 + 8 + 8 + 8 bytes.
+    let stat = encode_answer(
+        rt.alloc(),
+        &Reply::Stat {
+            block_size: 4096,
+            inodes: 3,
+            entries: 2,
+            bytes: 5,
+        },
+    )?;
+    assert_eq!(rt;
+        stat.as_slice(),
+        b"\x00\x00\x00\x1e\x01\x08\x00\x00\x10\x00\x00\x00\x00\x00\x00\x00\x00\x03\x00\x00\x00\x00\x00\x00\x00\x02\x00\x00\x00\x00\x00\x00\x00\x05".as_slice()
+    );
     let refused = encode_bad_input(rt.alloc(), 0)?;
     assert_eq!(rt;
         refused.as_slice(),
         b"\x00\x00\x00\x09\x1b\x00\x00\x00\x00\x00\x00\x00\x00".as_slice()
+    );
+    Ok(())
+}
+
+#[test]
+fn lists(rt: HostRuntime) -> Result<(), Fail> {
+    let mut list = NameList::new(rt.alloc());
+    list.push(ByteList::from_slice(rt.alloc(), b"user.k")?)?;
+    let names = encode_answer(rt.alloc(), &Reply::Names(list))?;
+    assert_eq!(rt;
+        names.as_slice(),
+        b"\x00\x00\x00\x0c\x01\x07\x00\x01\x00\x06user.k".as_slice()
+    );
+    let mut list = DirEntryList::new(rt.alloc());
+    list.push(DirEntry {
+        inode: 3,
+        kind: Kind::Regular,
+        name: ByteList::from_slice(rt.alloc(), b"a")?,
+    })?;
+    let entries = encode_answer(rt.alloc(), &Reply::Entries(list))?;
+    assert_eq!(rt;
+        entries.as_slice(),
+        b"\x00\x00\x00\x10\x01\x06\x00\x01\x00\x00\x00\x00\x00\x00\x00\x03\x02\x00\x01\x61".as_slice()
     );
     Ok(())
 }
