@@ -1,5 +1,5 @@
 -- The attributes of a node.
-use Rattle.std.specs.Prelude.{ℕ, ◌-◌, ◌^◌, ◌==◌, min, length, sum_by, count_by, if◌then◌else◌}
+use Rattle.std.specs.Prelude.{ℕ, ◌-◌, ◌^◌, ◌==◌, min, List, length, sum_by, count_by, if◌then◌else◌}
 use Rattle.op_frames.specs.declared.reply.Attr.{Attr}
 use Rattle.op_frames.specs.declared.reply.Kind.{Kind}
 use Rattle.op_frames.specs.declared.reply.Kind.TheVariants as kinds
@@ -39,3 +39,25 @@ attr_of t inode node = record {
   ctime = node.ctime;
   locked = node.locked;
 }
+
+abbrev pub entries_in : Content → ℕ
+entries_in (Directory entries) = length entries
+entries_in (Regular bytes) = 0
+entries_in (Link target) = 0
+
+abbrev pub bytes_in : Content → ℕ
+bytes_in (Regular bytes) = length bytes
+bytes_in (Directory entries) = 0
+bytes_in (Link target) = 0
+
+-- a number, as far as its field holds it
+abbrev pub at_most_u64 : ℕ → ℕ
+at_most_u64 n = min n (2 ^ 64 - 1)
+
+-- how many entries all directories have
+abbrev pub entry_count : Tree → ℕ
+entry_count t = sum_by (λ e. entries_in e.1.content) t.nodes
+
+-- how many bytes all regular files have
+abbrev pub byte_count : Tree → ℕ
+byte_count t = sum_by (λ e. bytes_in e.1.content) t.nodes

@@ -1,8 +1,11 @@
 -- The checks of the operations. Each fails with the error number of POSIX `errno.h`, or not.
-use Rattle.std.specs.Prelude.{ℕ, ◌+◌, ◌^◌, ◌==◌, List, [], ◌∷◌, length, Bool, ◌||◌, nat_lt, nat_le, nat_eq, Option, None, Some, is_some, if◌then◌else◌}
+use Rattle.std.specs.Prelude.{ℕ, ◌+◌, ◌*◌, ◌^◌, ◌==◌, List, [], ◌∷◌, length, Bool, not, ◌&&◌, ◌||◌, nat_lt, nat_le, nat_eq, Option, None, Some, is_some, if◌then◌else◌}
 use Rattle.std.specs.List.{list_any}
 use Rattle.std.specs.Cmp.Lexicographic.{pointwise}
-use Rattle.plain_tree.specs.Tree.{Regular, Directory, Link, Node, Tree, entry_of}
+use Rattle.op_frames.specs.declared.operation.SetFlag.{SetFlag}
+use Rattle.op_frames.specs.declared.operation.SetFlag.TheVariants as flags
+use Rattle.plain_tree.specs.Tree.{Content, Regular, Directory, Link, Node, Handle, Tree, root, lost_and_found, node_at, entry_of, handle_of}
+use Rattle.plain_tree.specs.Entries.{entries_of, is_directory}
 
 -- fails with this error where the test is true
 abbrev pub fails_with : ℕ → Bool → Option ℕ
@@ -67,3 +70,77 @@ read_length_check count = fails_with 22 (nat_lt 131072 count)
 -- EFBIG where a write of some data ends past the longest file
 abbrev pub write_end_check : ℕ → List ℕ → Option ℕ
 write_end_check offset bytes = if length bytes == 0 then None else fails_with 27 (nat_lt (2 ^ 50) (offset + length bytes))
+
+-- ---- the checks of the other operations
+
+-- ENAMETOOLONG, EINVAL, for the name of an attribute
+abbrev pub attribute_name_check : List ℕ → Option ℕ
+attribute_name_check name = if nat_lt 255 (length name) then Some 36 else fails_with 22 (length name == 0 || list_any (λ b. b == 0) name)
+
+-- ENAMETOOLONG, EINVAL, for the target of a symbolic link
+abbrev pub target_check : List ℕ → Option ℕ
+target_check target = if nat_lt 4095 (length target) then Some 36 else fails_with 22 (length target == 0 || list_any (λ b. b == 0) target)
+
+-- EINVAL where a page of no entry is asked for, or of more than 256
+abbrev pub page_check : ℕ → Option ℕ
+page_check most = fails_with 22 (most == 0 || nat_lt 256 most)
+
+-- EINVAL where a time is not below 2^62
+abbrev pub time_check : ℕ → Option ℕ
+time_check time = fails_with 22 (nat_le (2 ^ 62) time)
+
+-- EISDIR, EINVAL where it is no regular file
+abbrev pub file_check : Option Node → Option ℕ
+file_check None = None
+file_check (Some node) = elim node.content [ Regular bytes ↦ None | Directory entries ↦ Some 21 | Link target ↦ Some 22 ]
+
+-- EINVAL where it is no symbolic link
+abbrev pub link_check : Option Node → Option ℕ
+link_check None = None
+link_check (Some node) = elim node.content [ Link target ↦ None | Regular bytes ↦ Some 22 | Directory entries ↦ Some 22 ]
+
+-- fails with this error where it is a directory
+abbrev pub no_directory_check : ℕ → Option Node → Option ℕ
+no_directory_check errno None = None
+no_directory_check errno (Some node) = fails_with errno (is_directory node.content)
+
+-- ENOTEMPTY where it is a directory with entries
+abbrev pub empty_check : Option Node → Option ℕ
+empty_check None = None
+empty_check (Some node) = fails_with 39 (nat_lt 0 (length (entries_of node.content)))
+
+-- EPERM for the entry lost+found of the root
+abbrev pub keep_check : ℕ → List ℕ → Option ℕ
+keep_check parent name = fails_with 1 (parent == root && pointwise nat_eq name lost_and_found)
+
+-- EPERM for the root
+abbrev pub root_check : ℕ → Option ℕ
+root_check inode = fails_with 1 (inode == root)
+
+-- ENOENT where the directory has no entry of this name
+abbrev pub entry_check : Option ℕ → Option ℕ
+entry_check None = Some 2
+entry_check (Some inode) = None
+
+-- EFBIG where a file would be longer than the longest
+abbrev pub size_check : ℕ → Option ℕ
+size_check size = fails_with 27 (nat_lt (2 ^ 50) size)
+
+-- E2BIG where the value of an attribute is longer than 65,536 bytes
+abbrev pub value_check : List ℕ → Option ℕ
+value_check value = fails_with 7 (nat_lt 65536 (length value))
+
+-- EEXIST for a new attribute that is there, ENODATA for an old one that is not
+abbrev pub flag_check : SetFlag → Bool → Option ℕ
+flag_check flags.Any present = None
+flag_check flags.New present = fails_with 17 present
+flag_check flags.Old present = fails_with 61 (not present)
+
+-- ENODATA where the node has no such attribute
+abbrev pub attribute_check : Option (List ℕ) → Option ℕ
+attribute_check None = Some 61
+attribute_check (Some value) = None
+
+-- EINVAL for a number of cache entries outside 64 to 4,096, or that take more than 2^32 bytes
+abbrev pub cache_check : Tree → ℕ → Option ℕ
+cache_check t entries = fails_with 22 (nat_lt entries 64 || nat_lt 4096 entries || nat_lt (2 ^ 32) (entries * t.block_size))

@@ -1,6 +1,6 @@
 -- The bytes of regular files.
 use Rattle.std.specs.Prelude.{ℕ, ◌+◌, ◌-◌, List, ◌++◌, length, take, drop, replicate, Option, None, Some, option_and_then}
-use Rattle.plain_tree.specs.Tree.{Content, Regular, Directory, Link, Handle, Tree, node_at, handle_of}
+use Rattle.plain_tree.specs.Tree.{Content, Regular, Directory, Link, Node, Handle, Tree, node_at, handle_of}
 
 -- lengthened with zeros to a length that it has not yet
 abbrev pub padded : ℕ → List ℕ → List ℕ
@@ -37,3 +37,13 @@ abbrev pub with_bytes : (List ℕ → List ℕ) → Content → Content
 with_bytes f (Regular bytes) = Regular (f bytes)
 with_bytes f (Directory entries) = Directory entries
 with_bytes f (Link target) = Link target
+
+-- cut, or lengthened with zeros
+abbrev pub resized : ℕ → List ℕ → List ℕ
+resized size bytes = take size (padded size bytes)
+
+-- the target of a symbolic link
+abbrev pub target_of : Content → Option (List ℕ)
+target_of (Link target) = Some target
+target_of (Regular bytes) = None
+target_of (Directory entries) = None

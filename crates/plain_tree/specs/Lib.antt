@@ -1,6 +1,11 @@
 pub mod Attributes
+pub mod Below
 pub mod Calls
 pub mod Checks
+pub mod Entries
 pub mod Files
 pub mod Operations
+pub mod Pages
+pub mod Rows
+pub mod Subtrees
 pub mod Tree

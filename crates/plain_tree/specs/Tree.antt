@@ -1,6 +1,6 @@
 -- The plain tree: nodes by their inode numbers, and the handles that are open.
 use Rattle.std.specs.Prelude.{ℕ, ◌+◌, ◌==◌, List, [], ◌∷◌, Bool, false, Option, None, Some, codes, if◌then◌else◌}
-use Rattle.std.specs.Map.{lookup, set_value}
+use Rattle.std.specs.Map.{lookup, remove_entry, set_value}
 use Rattle.std.specs.Ordering.{nat_cmp}
 use Rattle.std.specs.BTreeMap.{insert_entry, is_at}
 use Rattle.std.specs.Cmp.Lexicographic.{slice_cmp}
@@ -100,3 +100,15 @@ named name inode (Link target) = Link target
 -- both times set
 abbrev pub touched : ℕ → Node → Node
 touched now node = record node { mtime = now; ctime = now }
+
+-- only the time of the last change of state set
+abbrev pub stamped : ℕ → Node → Node
+stamped now node = record node { ctime = now }
+
+-- without the node of an inode number
+abbrev pub without_node : ℕ → Tree → Tree
+without_node inode t = record t { nodes = remove_entry (is_at (nat_cmp inode)) t.nodes }
+
+-- without a handle
+abbrev pub without_handle : ℕ → Tree → Tree
+without_handle handle t = record t { handles = remove_entry (is_at (nat_cmp handle)) t.handles }

@@ -135,6 +135,8 @@ impl PlainCore {
                 offset,
                 bytes,
             } => self.write(pass, *handle, *offset, bytes, now),
+            // No other operation is within the rules of its fields yet.
+            _ => unreachable!(),
         }
     }
 

@@ -1,0 +1,4 @@
+mod Reached
+pub mod Changes
+pub mod Handles
+pub mod Replies
