@@ -1,5 +1,6 @@
 use super::*;
 use s3_base::{ByteList, Errno};
+use std::alloc::Global;
 use std::test::*;
 
 // A call of pass 1 at 5: create `a` in inode 1, mode 0o644, by 0 and 0.
@@ -14,63 +15,94 @@ const READ: &[u8] =
 // The attributes of inode 3, as a caller of a server asks for them.
 const GETATTR: &[u8] = b"\x00\x00\x00\x09\x02\x00\x00\x00\x00\x00\x00\x00\x03";
 
+fn is_create(step: &Step) -> bool {
+    match step {
+        Step::Call {
+            pass: 1,
+            now: 5,
+            op: Op::Create {
+                parent: 1,
+                name,
+                mode: 0o644,
+                uid: 0,
+                gid: 0,
+            },
+        } => name.as_slice() == b"a".as_slice(),
+        _ => false,
+    }
+}
+
+fn is_write(step: &Step) -> bool {
+    match step {
+        Step::Call {
+            pass: 1,
+            now: 6,
+            op: Op::Write {
+                handle: 1,
+                offset: 0,
+                bytes,
+            },
+        } => bytes.as_slice() == b"abc".as_slice(),
+        _ => false,
+    }
+}
+
+fn is_read(step: &Step) -> bool {
+    matches!(
+        step,
+        Step::Call {
+            pass: 1,
+            now: 7,
+            op: Op::Read {
+                handle: 1,
+                offset: 0,
+                length: 10,
+            },
+        }
+    )
+}
+
+#[derive(Clone, Copy, Debug, PartialEq, Eq)]
+enum Seen {
+    Create,
+    Write,
+    Read,
+    End,
+    Other,
+}
+
+fn seen_of(step: &Step) -> Seen {
+    if is_create(step) {
+        return Seen::Create;
+    }
+    if is_write(step) {
+        return Seen::Write;
+    }
+    if is_read(step) {
+        return Seen::Read;
+    }
+    if matches!(step, Step::End) {
+        return Seen::End;
+    }
+    Seen::Other
+}
+
+fn call_in_front(alloc: Global, bytes: &[u8]) -> Option<(Seen, usize)> {
+    let (step, length) = decode_call(alloc, bytes).ok()?;
+    Some((seen_of(&step), length))
+}
+
 #[test]
 fn calls(rt: HostRuntime) -> Result<(), Fail> {
-    let (step, length) = decode_call(rt.alloc(), CREATE).ok().ok_or("a call")?;
-    assert_eq!(rt; length, 43);
-    let Step::Call {
-        pass: 1,
-        now: 5,
-        op: Op::Create {
-            parent: 1,
-            name,
-            mode: 0o644,
-            uid: 0,
-            gid: 0,
-        },
-    } = step
-    else {
-        return Err("not this create".into());
-    };
-    assert_eq!(rt; name.as_slice(), b"a".as_slice());
-
-    let (step, length) = decode_call(rt.alloc(), WRITE).ok().ok_or("a call")?;
-    assert_eq!(rt; length, 45);
-    let Step::Call {
-        pass: 1,
-        now: 6,
-        op: Op::Write {
-            handle: 1,
-            offset: 0,
-            bytes,
-        },
-    } = step
-    else {
-        return Err("not this write".into());
-    };
-    assert_eq!(rt; bytes.as_slice(), b"abc".as_slice());
-
-    let (step, length) = decode_call(rt.alloc(), READ).ok().ok_or("a call")?;
-    assert_eq!(rt; length, 42);
-    let Step::Call {
-        pass: 1,
-        now: 7,
-        op: Op::Read {
-            handle: 1,
-            offset: 0,
-            length: 10,
-        },
-    } = step
-    else {
-        return Err("not this read".into());
-    };
-
-    let (step, length) = decode_call(rt.alloc(), b"\x00\x00\x00\x01\x12\xff")
-        .ok()
-        .ok_or("the end")?;
-    assert_eq!(rt; length, 5);
-    assert!(rt; matches!(&step, Step::End));
-
+    let calls: [(&[u8], Seen, usize); 4] = [
+        (CREATE, Seen::Create, 43),
+        (WRITE, Seen::Write, 45),
+        (READ, Seen::Read, 42),
+        (b"\x00\x00\x00\x01\x12\xff", Seen::End, 5),
+    ];
+    for (bytes, call, length) in calls {
+        assert_eq!(rt; call_in_front(rt.alloc(), bytes), Some((call, length)));
+    }
     let (op, length) = decode_op(rt.alloc(), GETATTR).ok().ok_or("an operation")?;
     assert_eq!(rt; length, 13);
     assert!(rt; matches!(&op, Op::Getattr { inode: 3 }));
