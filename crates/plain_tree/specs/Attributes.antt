@@ -1,5 +1,5 @@
 -- The attributes of a node.
-use Rattle.std.specs.Prelude.{ℕ, ◌-◌, ◌^◌, ◌==◌, min, List, length, sum_by, count_by, if◌then◌else◌}
+use Rattle.std.specs.Prelude.{ℕ, ◌-◌, ◌^◌, ◌==◌, min, length, sum_by, count_by, if◌then◌else◌}
 use Rattle.op_frames.specs.declared.reply.Attr.{Attr}
 use Rattle.op_frames.specs.declared.reply.Kind.{Kind}
 use Rattle.op_frames.specs.declared.reply.Kind.TheVariants as kinds

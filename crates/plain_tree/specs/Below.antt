@@ -1,7 +1,7 @@
 -- What lies at and below a node.
-use Rattle.std.specs.Prelude.{ℕ, zero, suc, ◌+◌, ◌==◌, List, [], ◌∷◌, ◌++◌, length, map, fold, Bool, true, false, Option, None, Some, option_map, if◌then◌else◌}
+use Rattle.std.specs.Prelude.{ℕ, zero, suc, ◌==◌, List, [], ◌∷◌, ◌++◌, length, map, fold, Bool, None, Some, if◌then◌else◌}
 use Rattle.std.specs.List.{list_any}
-use Rattle.plain_tree.specs.Tree.{Content, Node, Tree, node_at}
+use Rattle.plain_tree.specs.Tree.{Tree, node_at}
 use Rattle.plain_tree.specs.Entries.{entries_of}
 
 abbrev pub is_among : List ℕ → ℕ → Bool

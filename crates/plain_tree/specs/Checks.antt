@@ -4,7 +4,7 @@ use Rattle.std.specs.List.{list_any}
 use Rattle.std.specs.Cmp.Lexicographic.{pointwise}
 use Rattle.op_frames.specs.declared.operation.SetFlag.{SetFlag}
 use Rattle.op_frames.specs.declared.operation.SetFlag.TheVariants as flags
-use Rattle.plain_tree.specs.Tree.{Content, Regular, Directory, Link, Node, Handle, Tree, root, lost_and_found, node_at, entry_of, handle_of}
+use Rattle.plain_tree.specs.Tree.{Regular, Directory, Link, Node, Tree, root, lost_and_found, entry_of}
 use Rattle.plain_tree.specs.Entries.{entries_of, is_directory}
 
 -- fails with this error where the test is true

@@ -1,6 +1,6 @@
 -- The bytes of regular files.
 use Rattle.std.specs.Prelude.{ℕ, ◌+◌, ◌-◌, List, ◌++◌, length, take, drop, replicate, Option, None, Some, option_and_then}
-use Rattle.plain_tree.specs.Tree.{Content, Regular, Directory, Link, Node, Handle, Tree, node_at, handle_of}
+use Rattle.plain_tree.specs.Tree.{Content, Regular, Directory, Link, Handle, Tree, node_at, handle_of}
 
 -- lengthened with zeros to a length that it has not yet
 abbrev pub padded : ℕ → List ℕ → List ℕ

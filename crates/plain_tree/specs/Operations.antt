@@ -7,7 +7,7 @@ use Rattle.op_frames.specs.declared.operation.Op.TheVariants as ops
 use Rattle.op_frames.specs.declared.operation.Op.TheVariants.{Getattr, Create, Read, Write}
 use Rattle.op_frames.specs.declared.reply.Reply.{Reply}
 use Rattle.op_frames.specs.declared.reply.Reply.TheVariants as replies
-use Rattle.plain_tree.specs.Tree.{Content, Regular, Directory, Link, Node, Handle, Tree, node_at, handle_of, with_node, with_handle, change_node, named, touched, stamped, without_node, without_handle}
+use Rattle.plain_tree.specs.Tree.{Regular, Directory, Link, Node, Tree, node_at, handle_of, with_node, with_handle, change_node, named, touched, stamped, without_node, without_handle}
 use Rattle.plain_tree.specs.Attributes.{attr_of, at_most_u64, entry_count, byte_count}
 use Rattle.plain_tree.specs.Entries.{is_folder, entry_at, child_at, add_entry, drop_entry, is_named, settled}
 use Rattle.plain_tree.specs.Below.{at_and_below, is_at_or_below}

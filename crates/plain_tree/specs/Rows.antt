@@ -1,5 +1,5 @@
 -- Words for worked calls and their replies.
-use Rattle.std.specs.Prelude.{ℕ, List, Bool, false}
+use Rattle.std.specs.Prelude.{ℕ, List, false}
 use Rattle.op_frames.specs.declared.operation.Op.{Op}
 use Rattle.op_frames.specs.declared.reply.Attr.{Attr}
 use Rattle.op_frames.specs.declared.reply.Reply.{Reply}

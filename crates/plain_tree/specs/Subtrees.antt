@@ -1,8 +1,8 @@
 -- Whole subtrees: renamed, copied, locked and removed.
-use Rattle.std.specs.Prelude.{ℕ, zero, suc, ◌+◌, ◌==◌, List, [], ◌∷◌, ◌++◌, length, map, filter, fold, Bool, true, false, not, ◌&&◌, Option, None, Some, is_some, if◌then◌else◌}
+use Rattle.std.specs.Prelude.{ℕ, ◌+◌, ◌==◌, List, [], ◌∷◌, ◌++◌, length, map, filter, Bool, true, false, not, ◌&&◌, Option, None, Some, if◌then◌else◌}
 use Rattle.std.specs.List.{filter_map}
-use Rattle.plain_tree.specs.Tree.{Content, Regular, Directory, Link, Node, Handle, Tree, node_at, change_node, touched, stamped, without_node}
-use Rattle.plain_tree.specs.Entries.{entries_of, is_directory, entry_at, add_entry, drop_entry, lives, settled}
+use Rattle.plain_tree.specs.Tree.{Content, Regular, Directory, Link, Node, Tree, node_at, change_node, stamped}
+use Rattle.plain_tree.specs.Entries.{is_directory, entry_at, add_entry, drop_entry, lives, settled}
 use Rattle.plain_tree.specs.Below.{is_among, at_and_below}
 
 -- ---- rename

@@ -62,12 +62,14 @@ pub fn copied()
 
 /// Refutes: a locked tree may be changed in some way; a locked tree may not be removed; a removed file with a handle goes.
 pub fn locked_and_removed()
-    ensures { answers (by 1 (ops.Mkdir 1 (codes "d") 493 0 0) ∷ by 1 (ops.Create 3 (codes "a") 420 0 0) ∷ by 1 (ops.Write 1 0 (codes "Xbc"))
-        ∷ by 1 (ops.LockTree 3) ∷ by 1 (ops.Write 1 0 (codes "Y")) ∷ by 1 (ops.Create 3 (codes "n") 420 0 0) ∷ by 1 (ops.Unlink 3 (codes "a"))
-        ∷ by 1 (ops.Rename 3 (codes "a") 1 (codes "z")) ∷ by 1 (ops.Link 4 1 (codes "z")) ∷ by 1 (ops.RemoveTree 1 (codes "d"))
-        ∷ by 1 (ops.Lookup 1 (codes "d")) ∷ by 1 (ops.Read 1 0 3) ∷ [])
+    ensures { answers (by 1 (ops.Mkdir 1 (codes "d") 493 0 0) ∷ by 1 (ops.Create 3 (codes "a") 420 0 0) ∷ by 1 (ops.Write 1 0 (codes "abc"))
+        ∷ by 1 (ops.CopyTree 3 1 (codes "c")) ∷ by 1 (ops.Open 6) ∷ by 1 (ops.Write 2 0 (codes "X")) ∷ by 1 (ops.LockTree 5)
+        ∷ by 1 (ops.Write 2 0 (codes "Y")) ∷ by 1 (ops.Create 5 (codes "n") 420 0 0) ∷ by 1 (ops.Unlink 5 (codes "a"))
+        ∷ by 1 (ops.Rename 5 (codes "a") 1 (codes "z")) ∷ by 1 (ops.Link 6 1 (codes "z")) ∷ by 1 (ops.Chmod 6 0) ∷ by 1 (ops.Truncate 6 0)
+        ∷ by 1 (ops.RemoveTree 1 (codes "c")) ∷ by 1 (ops.Lookup 1 (codes "c")) ∷ by 1 (ops.Read 2 0 3) ∷ [])
         ≡ replies.Attr (directory 3 5 5) ∷ replies.Opened 1 (file 4 1 0 5 5) ∷ replies.Count 3
-        ∷ replies.Done ∷ errno 1 ∷ errno 1 ∷ errno 1 ∷ errno 1 ∷ errno 1 ∷ replies.Done ∷ errno 2 ∷ replies.Bytes (codes "Xbc") ∷ [] }
+        ∷ replies.Attr (directory 5 5 5) ∷ replies.Opened 2 (file 6 1 3 5 5) ∷ replies.Count 1 ∷ replies.Done
+        ∷ errno 1 ∷ errno 1 ∷ errno 1 ∷ errno 1 ∷ errno 1 ∷ errno 1 ∷ errno 1 ∷ replies.Done ∷ errno 2 ∷ replies.Bytes (codes "Xbc") ∷ [] }
 {}
 
 /// Refutes: a flag of Setxattr is ignored; a page begins with the name after which it is asked for.
