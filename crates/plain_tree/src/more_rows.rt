@@ -28,14 +28,14 @@ pub fn renamed_over_a_directory()
         ∷ errno 20 ∷ errno 21 ∷ replies.Done ∷ replies.Attr (directory 3 5 8) ∷ errno 2 ∷ errno 2 ∷ [] }
 {}
 
-/// Refutes: two names of one file become two files in a copy.
+/// Refutes: two names of one file become two files in a copy, or use up two inode numbers.
 pub fn copied_links()
     ensures { answers (by 1 (ops.Mkdir 1 (codes "d") 493 0 0) ∷ by 1 (ops.Create 3 (codes "a") 420 0 0) ∷ at 1 6 (ops.Link 4 3 (codes "b"))
         ∷ at 1 7 (ops.CopyTree 3 1 (codes "c")) ∷ by 1 (ops.Lookup 5 (codes "a")) ∷ by 1 (ops.Lookup 5 (codes "b")) ∷ by 1 (ops.Write 1 0 (codes "x"))
-        ∷ by 1 (ops.Getattr 6) ∷ by 1 (ops.Getattr 1) ∷ [])
+        ∷ by 1 (ops.Getattr 6) ∷ by 1 (ops.Getattr 1) ∷ by 1 (ops.Create 1 (codes "n") 420 0 0) ∷ by 1 ops.Statfs ∷ [])
         ≡ replies.Attr (directory 3 5 5) ∷ replies.Opened 1 (file 4 1 0 5 5) ∷ replies.Attr (file 4 2 0 5 6)
         ∷ replies.Attr (directory 5 6 7) ∷ replies.Attr (file 6 2 0 5 7) ∷ replies.Attr (file 6 2 0 5 7) ∷ replies.Count 1
-        ∷ replies.Attr (file 6 2 0 5 7) ∷ replies.Attr (directory 1 7 7) ∷ [] }
+        ∷ replies.Attr (file 6 2 0 5 7) ∷ replies.Attr (directory 1 7 7) ∷ replies.Opened 2 (file 7 1 0 5 5) ∷ replies.Stat 4096 7 8 1 ∷ [] }
 {}
 
 /// Refutes: copies are numbered breadth first.
