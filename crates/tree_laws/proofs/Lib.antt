@@ -1,0 +1,4 @@
+pub mod Bytes
+pub mod Checked
+pub mod Nodes
+pub mod Written

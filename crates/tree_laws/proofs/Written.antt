@@ -1,0 +1,122 @@
+-- A file after a write, and after a truncation, that are answered with success.
+use Rattle.std.proofs.Common.{◌≡◌, ◌≤◌, ℕ, List, [], ◌∷◌, false, cond, Option, None, Some, refl, sym, ap, ◌∙◌, arith}
+use Rattle.std.specs.Prelude.{◌==◌, length}
+use Rattle.std.proofs.lemmas.Bool.{ne_eqb}
+use Rattle.op_frames.specs.declared.operation.Op.TheVariants as ops
+use Rattle.op_frames.specs.declared.reply.Attr.{Attr}
+use Rattle.op_frames.specs.declared.reply.Reply.TheVariants as replies
+use Rattle.plain_tree.specs.Tree.{Regular, Node, Tree, node_at, handle_of, changed_by, change_node, touched}
+use Rattle.plain_tree.specs.Checks.{first_failure, node_check, file_check, lock_check, size_check}
+use Rattle.plain_tree.specs.Files.{file_at, open_file, inode_of, with_bytes, written_at, resized}
+use Rattle.plain_tree.specs.Operations.{checks, reply_to, tree_after}
+use Rattle.plain_tree.proofs.Replies.{reply_at, tree_at}
+use Rattle.tree_laws.specs.Files.{with_content, IsWritten, IsResized, ReadsAs, ReadsThere}
+use Rattle.tree_laws.proofs.Bytes.{written_bytes, length-resized, front-resized, zeros-resized}
+use Rattle.tree_laws.proofs.Checked.{first_passes, others_pass, is_open, is_file, read_is}
+use Rattle.tree_laws.proofs.Nodes.{found_itself, changes_one, node_of_handle}
+
+-- a node with its bytes changed, and touched
+abbrev changed_bytes : (List ℕ → List ℕ) → ℕ → Node → Node
+changed_bytes f now node = touched now (record node { content = with_bytes f node.content })
+
+changed-is : (f : List ℕ → List ℕ) (now : ℕ) (node : Node) (old : List ℕ) → node.content ≡ Regular old → changed_bytes f now node ≡ with_content now (f old) node
+changed-is f now node old is = ap (λ content. touched now (record node { content = with_bytes f content })) is
+
+changed_node : (f : Node → Node) (inode : ℕ) (t : Tree) (node : Node) → node_at t inode ≡ Some node → change_node inode f t ≡ changed_by f (Some node) inode t
+changed_node f inode t node is = ap (λ found. changed_by f found inode t) is
+
+reads_as : (t after : Tree) (inode : ℕ) (bytes : List ℕ) (node : Node) → after.handles ≡ t.handles → node_at after inode ≡ Some node → node.content ≡ Regular bytes
+    → ReadsAs inode bytes t after
+reads_as t after inode bytes node handles is file reader handle offset count now opened own same small =
+    let here : handle_of after reader handle ≡ Some opened = rw handles own in
+    let there : file_at after opened.inode ≡ Some bytes = rw (same, is, file) refl in
+    let found : open_file after reader handle ≡ Some bytes = rw here there in
+    read_is after reader handle offset count now bytes small found
+
+-- ---- a write
+
+written : (t : Tree) (inode offset now : ℕ) (text : List ℕ) (node : Node) (old : List ℕ) → node_at t inode ≡ Some node → node.content ≡ Regular old
+    → IsWritten inode offset now text t (changed_by (changed_bytes (written_at offset text) now) (Some node) inode t)
+written t inode offset now text node old was file =
+    let f : Node → Node = changed_bytes (written_at offset text) now in
+    let new : List ℕ = written_at offset text old in
+    let is : node_at (changed_by f (Some node) inode t) inode ≡ Some (with_content now new node) =
+    found_itself f node inode t was ∙ ap Some (changed-is (written_at offset text) now node old file) in
+    record {
+      node = node;
+      old = old;
+      new = new;
+      was = was;
+      was_file = file;
+      is = is;
+      bytes = written_bytes offset text old;
+      reads = reads_as t (changed_by f (Some node) inode t) inode new (with_content now new node) refl is refl;
+      only = changes_one f node inode t was;
+    }
+
+reads_there : (t after : Tree) (inode offset now : ℕ) (text : List ℕ) → IsWritten inode offset now text t after → ReadsThere inode offset text t after
+reads_there t after inode offset now text is reader handle later opened own same small =
+    is.reads reader handle offset (length text) later opened own same small ∙ ap replies.Bytes is.bytes.there
+
+abbrev pub Written : (t : Tree) (pass now handle offset count : ℕ) (text : List ℕ) → Type 0
+Written t pass now handle offset count text =
+    (count ≡ length text)
+    × IsWritten (inode_of (handle_of t pass handle)) offset now text t (tree_after t pass (ops.Write handle offset text) now)
+    × ReadsThere (inode_of (handle_of t pass handle)) offset text t (tree_after t pass (ops.Write handle offset text) now)
+
+pub write_done : (t : Tree) (pass now handle offset count : ℕ) (text : List ℕ) (failure : Option ℕ) → first_failure (checks t pass (ops.Write handle offset text)) ≡ failure
+    → reply_to t pass (ops.Write handle offset text) now ≡ replies.Count count → 1 ≤ count → Written t pass now handle offset count text
+write_done t pass now handle offset count text (Some errno) is replied some =
+    let refused = sym (reply_at t pass now (ops.Write handle offset text) (Some errno) is) ∙ replied in
+    absurd (cc refused)
+write_done t pass now handle offset count text None is replied some =
+    let inode : ℕ = inode_of (handle_of t pass handle) in
+    let counted : replies.Count (length text) ≡ replies.Count count = sym (reply_at t pass now (ops.Write handle offset text) None is) ∙ replied in
+    let all : length text ≡ count = cc counted in
+    let not_empty : (length text == 0) ≡ false = ne_eqb (length text) 0 (λ empty. omega (arith, all, empty, some)) in
+    let opened = is_open (open_file t pass handle) (first_passes _ _ is) in
+    let found = node_of_handle t (handle_of t pass handle) opened.0 opened.1 in
+    let f : Node → Node = changed_bytes (written_at offset text) now in
+    let after : tree_after t pass (ops.Write handle offset text) now ≡ changed_by f (Some found.0) inode t =
+    tree_at t pass now (ops.Write handle offset text) None is
+    ∙ ap (λ empty. cond empty t (change_node inode f t)) not_empty
+    ∙ changed_node f inode t found.0 found.1 in
+    let done : IsWritten inode offset now text t (changed_by f (Some found.0) inode t) = written t inode offset now text found.0 opened.0 found.1 found.2 in
+    (sym all, rw after done, rw after (reads_there t (changed_by f (Some found.0) inode t) inode offset now text done))
+
+-- ---- a truncation
+
+truncated : (t : Tree) (inode size now : ℕ) (node : Node) (old : List ℕ) → node_at t inode ≡ Some node → node.content ≡ Regular old
+    → IsResized inode size now t (changed_by (changed_bytes (resized size) now) (Some node) inode t)
+truncated t inode size now node old was file =
+    let f : Node → Node = changed_bytes (resized size) now in
+    let new : List ℕ = resized size old in
+    let is : node_at (changed_by f (Some node) inode t) inode ≡ Some (with_content now new node) =
+    found_itself f node inode t was ∙ ap Some (changed-is (resized size) now node old file) in
+    record {
+      node = node;
+      old = old;
+      new = new;
+      was = was;
+      was_file = file;
+      is = is;
+      size_is = length-resized size old;
+      front = front-resized size old;
+      zeros = zeros-resized size old;
+      reads = reads_as t (changed_by f (Some node) inode t) inode new (with_content now new node) refl is refl;
+      only = changes_one f node inode t was;
+    }
+
+pub truncate_done : (t : Tree) (pass now inode size : ℕ) (attr : Attr) (failure : Option ℕ) → first_failure (checks t pass (ops.Truncate inode size)) ≡ failure
+    → reply_to t pass (ops.Truncate inode size) now ≡ replies.Attr attr → IsResized inode size now t (tree_after t pass (ops.Truncate inode size) now)
+truncate_done t pass now inode size attr (Some errno) is replied =
+    let refused = sym (reply_at t pass now (ops.Truncate inode size) (Some errno) is) ∙ replied in
+    absurd (cc refused)
+truncate_done t pass now inode size attr None is replied =
+    let later : List (Option ℕ) = lock_check (node_at t inode) ∷ size_check size ∷ [] in
+    let rest : first_failure (file_check (node_at t inode) ∷ later) ≡ None = others_pass (node_check (node_at t inode)) (file_check (node_at t inode) ∷ later) is in
+    let found = is_file (node_at t inode) (first_passes _ _ is) (first_passes (file_check (node_at t inode)) later rest) in
+    let f : Node → Node = changed_bytes (resized size) now in
+    let after : tree_after t pass (ops.Truncate inode size) now ≡ changed_by f (Some found.0) inode t =
+    tree_at t pass now (ops.Truncate inode size) None is ∙ changed_node f inode t found.0 found.2 in
+    rw after (truncated t inode size now found.0 found.1 found.2 found.3)

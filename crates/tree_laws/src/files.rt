@@ -1,0 +1,24 @@
+ghost use Rattle.std.specs.Prelude.{◌≡◌, ◌<◌, ◌≤◌, ℕ, List, length};
+ghost use Rattle.op_frames.specs.declared.operation.Op.TheVariants as ops;
+ghost use Rattle.op_frames.specs.declared.reply.Attr.{Attr};
+ghost use Rattle.op_frames.specs.declared.reply.Reply.TheVariants as replies;
+ghost use Rattle.plain_tree.specs.Tree.{Tree, handle_of};
+ghost use Rattle.plain_tree.specs.Files.{inode_of};
+ghost use Rattle.plain_tree.specs.Operations.{reply_to, tree_after};
+ghost use Rattle.tree_laws.specs.Files.{IsWritten, IsResized, ReadsThere};
+
+/// What is written is read: after a Write is answered with a count of at least 1, each handle on that file, of any pass,
+/// reads the data there. A gap reads as zeros, and nothing else has changed but the times of the file.
+pub fn written_is_read()
+    ensures { (t : Tree) (pass now handle offset count : ℕ) (text : List ℕ) → reply_to t pass (ops.Write handle offset text) now ≡ replies.Count count → 1 ≤ count
+        → (count ≡ length text)
+        × IsWritten (inode_of (handle_of t pass handle)) offset now text t (tree_after t pass (ops.Write handle offset text) now)
+        × ReadsThere (inode_of (handle_of t pass handle)) offset text t (tree_after t pass (ops.Write handle offset text) now) }
+{}
+
+/// A Truncate that is answered with attributes cuts the file, or lengthens it with zeros, and changes nothing else but its
+/// times.
+pub fn truncated_is_cut()
+    ensures { (t : Tree) (pass now inode size : ℕ) (attr : Attr) → reply_to t pass (ops.Truncate inode size) now ≡ replies.Attr attr
+        → IsResized inode size now t (tree_after t pass (ops.Truncate inode size) now) }
+{}
