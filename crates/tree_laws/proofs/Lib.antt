@@ -1,4 +1,5 @@
 pub mod Bytes
 pub mod Checked
+pub mod Locked
 pub mod Nodes
 pub mod Written

@@ -2,5 +2,7 @@
 #![tactic(auto)]
 
 mod files;
+mod locks;
 
 pub use files::{truncated_is_cut, written_is_read};
+pub use locks::locked_nodes_refuse;
