@@ -1,8 +1,12 @@
 //! Laws of the plain tree: what shows that its definitions are right. Each is the contract of a function without a body.
 #![tactic(auto)]
 
+mod changes;
+mod entries;
 mod files;
 mod locks;
 
+pub use changes::changes_stay_in_one_node;
+pub use entries::renamed_to_itself_is_as_before;
 pub use files::{truncated_is_cut, written_is_read};
 pub use locks::locked_nodes_refuse;
