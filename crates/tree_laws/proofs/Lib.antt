@@ -1,6 +1,9 @@
 pub mod Alone
+pub mod Ascending
 pub mod Bytes
 pub mod Checked
 pub mod Locked
 pub mod Nodes
+pub mod Ordered
+pub mod Visited
 pub mod Written

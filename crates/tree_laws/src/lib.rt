@@ -5,8 +5,10 @@ mod changes;
 mod entries;
 mod files;
 mod locks;
+mod numbers;
 
 pub use changes::changes_stay_in_one_node;
 pub use entries::renamed_to_itself_is_as_before;
 pub use files::{truncated_is_cut, written_is_read};
 pub use locks::locked_nodes_refuse;
+pub use numbers::nodes_stay_in_order;

@@ -1,0 +1,54 @@
+-- Lists of numbers that ascend.
+use Rattle.std.proofs.Common.{◌≡◌, ◌≤◌, ◌<◌, ℕ, ◌+◌, List, [], ◌∷◌, ◌++◌, Bool, true, false, cond, sym, arith}
+use Rattle.std.specs.BTreeMap.{insert_entry}
+use Rattle.std.specs.Cmp.{nat_cmp_is}
+use Rattle.std.specs.List.{filter}
+use Rattle.std.specs.Map.{keys_of, remove_entry}
+use Rattle.std.specs.Ordering.{nat_cmp}
+use Rattle.std.specs.declared.cmp.Ordering.TheVariants.{Greater}
+use Rattle.tree_laws.specs.Numbers.{Ascend}
+
+pub lower : (low least : ℕ) (numbers : List ℕ) (next : ℕ) → least ≤ low → Ascend low numbers next → Ascend least numbers next
+lower low least [] next less ascend = omega (arith, less, ascend)
+lower low least (number ∷ numbers) next less ascend = (omega (arith, less, ascend.0), ascend.1)
+
+pub without_first : (low number : ℕ) (numbers : List ℕ) (next : ℕ) → Ascend low (number ∷ numbers) next → Ascend low numbers next
+without_first low number numbers next ascend = lower (number + 1) low numbers next (omega (arith, ascend.0)) ascend.1
+
+pub higher : (low : ℕ) (numbers : List ℕ) (next most : ℕ) → next ≤ most → Ascend low numbers next → Ascend low numbers most
+higher low [] next most less ascend = omega (arith, less, ascend)
+higher low (number ∷ numbers) next most less ascend = (ascend.0, higher (number + 1) numbers next most less ascend.1)
+
+pub joined : (low : ℕ) (numbers others : List ℕ) (middle next : ℕ) → Ascend low numbers middle → Ascend middle others next → Ascend low (numbers ++ others) next
+joined low [] others middle next first second = lower middle low others next first second
+joined low (number ∷ numbers) others middle next first second = (first.0, joined (number + 1) numbers others middle next first.1 second)
+
+-- the first number that may come is at most the next one
+below : (low : ℕ) (numbers : List ℕ) (next : ℕ) → Ascend low numbers next → low ≤ next
+below low [] next ascend = ascend
+below low (number ∷ numbers) next ascend = omega (arith, ascend.0, below (number + 1) numbers next ascend.1)
+
+-- ---- keys of entries
+
+ascend-cond : {X : Type 0} (low : ℕ) (test : Bool) (a b : List (ℕ × X)) (next : ℕ) → Ascend low (keys_of a) next → Ascend low (keys_of b) next → Ascend low (keys_of (cond test a b)) next
+ascend-cond low true a b next first second = first
+ascend-cond low false a b next first second = second
+
+pub ascend-remove : {X : Type 0} (low : ℕ) (test : ℕ → Bool) (es : List (ℕ × X)) (next : ℕ) → Ascend low (keys_of es) next → Ascend low (keys_of (remove_entry test es)) next
+ascend-remove low test [] next ascend = ascend
+ascend-remove low test (e ∷ es) next ascend =
+    ascend-cond low (test e.0) es (e ∷ remove_entry test es) next (without_first low e.0 (keys_of es) next ascend) (ascend.0, ascend-remove (e.0 + 1) test es next ascend.1)
+
+pub ascend-filter : {X : Type 0} (low : ℕ) (test : ℕ × X → Bool) (es : List (ℕ × X)) (next : ℕ) → Ascend low (keys_of es) next → Ascend low (keys_of (filter test es)) next
+ascend-filter low test [] next ascend = ascend
+ascend-filter low test (e ∷ es) next ascend =
+    ascend-cond low (test e) (e ∷ filter test es) (filter test es) next
+    (ascend.0, ascend-filter (e.0 + 1) test es next ascend.1)
+    (ascend-filter low test es next (without_first low e.0 (keys_of es) next ascend))
+
+pub ascend-insert : {X : Type 0} (low : ℕ) (es : List (ℕ × X)) (next : ℕ) (v : X) → Ascend low (keys_of es) next → Ascend low (keys_of (insert_entry nat_cmp es next v)) (next + 1)
+ascend-insert low [] next v ascend = (ascend, omega arith)
+ascend-insert low (e ∷ es) next v ascend =
+    let less : e.0 < next = omega (arith, below (e.0 + 1) (keys_of es) next ascend.1) in
+    let above : nat_cmp next e.0 ≡ Greater = sym (nat_cmp_is next e.0 Greater less) in
+    simp above (ascend.0, ascend-insert (e.0 + 1) es next v ascend.1)
