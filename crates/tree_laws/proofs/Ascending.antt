@@ -1,8 +1,8 @@
 -- Lists of numbers that ascend.
-use Rattle.std.proofs.Common.{◌≡◌, ◌≤◌, ◌<◌, ℕ, ◌+◌, List, [], ◌∷◌, ◌++◌, Bool, true, false, cond, sym, arith}
+use Rattle.std.proofs.Common.{◌≡◌, ◌≤◌, ◌<◌, ℕ, ◌+◌, List, [], ◌∷◌, ◌++◌, Bool, true, false, cond, Option, None, Some, refl, sym, arith}
 use Rattle.std.specs.BTreeMap.{insert_entry}
 use Rattle.std.specs.Cmp.{nat_cmp_is}
-use Rattle.std.specs.List.{filter}
+use Rattle.std.specs.List.{filter, filter_map, cons_option}
 use Rattle.std.specs.Map.{keys_of, remove_entry}
 use Rattle.std.specs.Ordering.{nat_cmp}
 use Rattle.std.specs.declared.cmp.Ordering.TheVariants.{Greater}
@@ -24,7 +24,7 @@ joined low [] others middle next first second = lower middle low others next fir
 joined low (number ∷ numbers) others middle next first second = (first.0, joined (number + 1) numbers others middle next first.1 second)
 
 -- the first number that may come is at most the next one
-below : (low : ℕ) (numbers : List ℕ) (next : ℕ) → Ascend low numbers next → low ≤ next
+pub below : (low : ℕ) (numbers : List ℕ) (next : ℕ) → Ascend low numbers next → low ≤ next
 below low [] next ascend = ascend
 below low (number ∷ numbers) next ascend = omega (arith, ascend.0, below (number + 1) numbers next ascend.1)
 
@@ -52,3 +52,17 @@ ascend-insert low (e ∷ es) next v ascend =
     let less : e.0 < next = omega (arith, below (e.0 + 1) (keys_of es) next ascend.1) in
     let above : nat_cmp next e.0 ≡ Greater = sym (nat_cmp_is next e.0 Greater less) in
     simp above (ascend.0, ascend-insert (e.0 + 1) es next v ascend.1)
+
+-- what a map that may drop entries leaves, where it keeps their numbers
+left_if : {X : Type 0} (low next : ℕ) (e : ℕ × X) (found : Option (ℕ × X)) (others : List (ℕ × X)) → ((x : ℕ × X) → found ≡ Some x → x.0 ≡ e.0) → low ≤ e.0
+    → Ascend (e.0 + 1) (keys_of others) next → Ascend low (keys_of others) next → Ascend low (keys_of (cons_option found others)) next
+left_if low next e None others keeps first rest without = without
+left_if low next e (Some x) others keeps first rest without = rw (keeps x refl) (first, rest)
+
+pub ascend-left : {X : Type 0} (keep : ℕ × X → Option (ℕ × X)) → ((e x : ℕ × X) → keep e ≡ Some x → x.0 ≡ e.0) → (low : ℕ) (es : List (ℕ × X)) (next : ℕ) → Ascend low (keys_of es) next
+    → Ascend low (keys_of (filter_map keep es)) next
+ascend-left keep keeps low [] next ascend = ascend
+ascend-left keep keeps low (e ∷ es) next ascend =
+    left_if low next e (keep e) (filter_map keep es) (keeps e) ascend.0
+    (ascend-left keep keeps (e.0 + 1) es next ascend.1)
+    (ascend-left keep keeps low es next (without_first low e.0 (keys_of es) next ascend))

@@ -5,5 +5,7 @@ pub mod Checked
 pub mod Locked
 pub mod Nodes
 pub mod Ordered
+pub mod Staying
+pub mod Still
 pub mod Visited
 pub mod Written

@@ -16,11 +16,11 @@ use Rattle.plain_tree.proofs.Replies.{reply_at}
 use Rattle.tree_laws.specs.Locks.{WouldChange}
 
 -- one of the checks fails
-abbrev HasFailure : List (Option ℕ) → Type 0
+abbrev pub HasFailure : List (Option ℕ) → Type 0
 HasFailure [] = ⊥
 HasFailure (check ∷ others) = ((n : ℕ) × (check ≡ Some n)) ⊎ HasFailure others
 
-first_of : (checks : List (Option ℕ)) → HasFailure checks → (n : ℕ) × (first_failure checks ≡ Some n)
+pub first_of : (checks : List (Option ℕ)) → HasFailure checks → (n : ℕ) × (first_failure checks ≡ Some n)
 first_of [] fails = absurd fails
 first_of (Some n ∷ others) fails = (n, refl)
 first_of (None ∷ others) (inl here) = absurd (cc here.1)
@@ -57,7 +57,7 @@ rename_fails t inode node is locked parent name new_parent new_name (inr (inr (i
     inr (inr (inr (inr (inr (inr (inr (inr (inr (inr (inr (inl (locked_check (child_at t parent name) node (ap (option_and_then (node_at t)) names ∙ is) locked))))))))))))
 rename_fails t inode node is locked parent name new_parent new_name (inr (inr (inr names))) = replaced t inode node is locked parent name new_parent new_name names _ refl
 
-refused : (t : Tree) (pass inode : ℕ) (node : Node) → node_at t inode ≡ Some node → node.locked ≡ true → (op : Op) → WouldChange t pass inode op → HasFailure (checks t pass op)
+pub refused : (t : Tree) (pass inode : ℕ) (node : Node) → node_at t inode ≡ Some node → node.locked ≡ true → (op : Op) → WouldChange t pass inode op → HasFailure (checks t pass op)
 refused t pass inode node is locked (ops.Chmod changed mode) same = inr (inr (inl (locked_check (node_at t changed) node (ap (node_at t) same ∙ is) locked)))
 refused t pass inode node is locked (ops.Chown changed uid gid) same = inr (inl (locked_check (node_at t changed) node (ap (node_at t) same ∙ is) locked))
 refused t pass inode node is locked (ops.Utimes changed mtime) same = inr (inr (inl (locked_check (node_at t changed) node (ap (node_at t) same ∙ is) locked)))

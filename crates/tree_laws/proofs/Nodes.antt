@@ -11,10 +11,10 @@ use Rattle.plain_tree.specs.Tree.{Content, Regular, Directory, Link, Node, Handl
 use Rattle.plain_tree.specs.Files.{bytes_of, file_at, inode_of}
 use Rattle.tree_laws.specs.Changes.{ChangesOneNode}
 
-same_number : (a b : ℕ) → is_at (nat_cmp a) b ≡ true → a ≡ b
+pub same_number : (a b : ℕ) → is_at (nat_cmp a) b ≡ true → a ≡ b
 same_number a b is = eqb-true a b (sym (unsigned_tied a b) ∙ is)
 
-other_number : (a b : ℕ) → a ≢ b → is_at (nat_cmp a) b ≡ false
+pub other_number : (a b : ℕ) → a ≢ b → is_at (nat_cmp a) b ≡ false
 other_number a b apart = unsigned_tied a b ∙ ne_eqb a b apart
 
 own_number : (a : ℕ) → is_at (nat_cmp a) a ≡ true

@@ -1,8 +1,8 @@
 -- What each operation does to the numbers of nodes.
-use Rattle.std.proofs.Common.{◌≡◌, ◌≤◌, ℕ, ◌+◌, List, [], ◌∷◌, ◌++◌, Bool, true, false, cond, Option, None, Some, refl, sym, ap, ◌∙◌, subst, arith}
+use Rattle.std.proofs.Common.{◌≡◌, ℕ, ◌+◌, List, [], ◌∷◌, ◌++◌, Bool, true, false, cond, Option, None, Some, refl, sym, ap, ◌∙◌, subst, arith}
 use Rattle.std.specs.Prelude.{◌==◌, not, ◌&&◌, length, map}
 use Rattle.std.specs.BTreeMap.{is_at}
-use Rattle.std.specs.List.{filter, filter_map, cons_option}
+use Rattle.std.specs.List.{filter}
 use Rattle.std.specs.Map.{keys_of}
 use Rattle.std.specs.Ordering.{nat_cmp}
 use Rattle.std.proofs.lemmas.Map.{keys-set_value}
@@ -20,26 +20,26 @@ use Rattle.plain_tree.specs.Operations.{checks, effect, tree_after, new_file, ne
 use Rattle.plain_tree.specs.Subtrees.{is_same, dropped, moved_entry, copies, with_copy, with_lock, left_over, without_directories, without_tree}
 use Rattle.plain_tree.proofs.Replies.{tree_at}
 use Rattle.tree_laws.specs.Numbers.{Ascend, InOrder}
-use Rattle.tree_laws.proofs.Ascending.{without_first, joined, ascend-remove, ascend-filter, ascend-insert}
+use Rattle.tree_laws.proofs.Ascending.{joined, ascend-left, ascend-remove, ascend-filter, ascend-insert}
 use Rattle.tree_laws.proofs.Visited.{copies_ascend}
 
 -- ---- one change
 
-changed : (f : Node → Node) (found : Option Node) (inode : ℕ) (t : Tree) → InOrder t → InOrder (changed_by f found inode t)
+pub changed : (f : Node → Node) (found : Option Node) (inode : ℕ) (t : Tree) → InOrder t → InOrder (changed_by f found inode t)
 changed f None inode t ordered = ordered
 changed f (Some node) inode t ordered = subst (λ keys. Ascend 0 keys t.next_inode) (sym (keys-set_value (is_at (nat_cmp inode)) t.nodes (f node))) ordered
 
-change : (f : Node → Node) (inode : ℕ) (t : Tree) → InOrder t → InOrder (change_node inode f t)
+pub change : (f : Node → Node) (inode : ℕ) (t : Tree) → InOrder t → InOrder (change_node inode f t)
 change f inode t ordered = changed f (node_at t inode) inode t ordered
 
 either : (test : Bool) (a b : Tree) → InOrder a → InOrder b → InOrder (cond test a b)
 either true a b first second = first
 either false a b first second = second
 
-removed : (inode : ℕ) (t : Tree) → InOrder t → InOrder (without_node inode t)
+pub removed : (inode : ℕ) (t : Tree) → InOrder t → InOrder (without_node inode t)
 removed inode t ordered = ascend-remove 0 (is_at (nat_cmp inode)) t.nodes t.next_inode ordered
 
-settle : (inode : ℕ) (t : Tree) → InOrder t → InOrder (settled inode t)
+pub settle : (inode : ℕ) (t : Tree) → InOrder t → InOrder (settled inode t)
 settle inode t ordered = either (lives t inode) t (without_node inode t) ordered (removed inode t ordered)
 
 made : (node : Node) (t : Tree) → InOrder t → InOrder (with_node node t)
@@ -93,19 +93,6 @@ locked_keys below (e ∷ es) =
 locked : (inode : ℕ) (t : Tree) → InOrder t → InOrder (with_lock inode t)
 locked inode t ordered = subst (λ keys. Ascend 0 keys t.next_inode) (sym (locked_keys (at_and_below t inode) t.nodes)) ordered
 
-left_if : (low next : ℕ) (e : ℕ × Node) (found : Option (ℕ × Node)) (others : List (ℕ × Node)) → ((x : ℕ × Node) → found ≡ Some x → x.0 ≡ e.0) → low ≤ e.0
-    → Ascend (e.0 + 1) (keys_of others) next → Ascend low (keys_of others) next → Ascend low (keys_of (cons_option found others)) next
-left_if low next e None others keeps first rest without = without
-left_if low next e (Some x) others keeps first rest without = rw (keeps x refl) (first, rest)
-
-left : (keep : ℕ × Node → Option (ℕ × Node)) → ((e x : ℕ × Node) → keep e ≡ Some x → x.0 ≡ e.0) → (low : ℕ) (es : List (ℕ × Node)) (next : ℕ) → Ascend low (keys_of es) next
-    → Ascend low (keys_of (filter_map keep es)) next
-left keep keeps low [] next ascend = ascend
-left keep keeps low (e ∷ es) next ascend =
-    left_if low next e (keep e) (filter_map keep es) (keeps e) ascend.0
-    (left keep keeps (e.0 + 1) es next ascend.1)
-    (left keep keeps low es next (without_first low e.0 (keys_of es) next ascend))
-
 left_key : (among stays : Bool) (e x : ℕ × Node) (node : Node) → cond among (cond stays (Some (e.0, node)) None) (Some e) ≡ Some x → x.0 ≡ e.0
 left_key true true e x node is =
     let same : (e.0, node) ≡ x = cc is in
@@ -120,7 +107,7 @@ uprooted parent name now None t ordered = ordered
 uprooted parent name now (Some inode) t ordered =
     let below : List ℕ = at_and_below t inode in
     let unlinked : Tree = drop_entry parent name now t in
-    left (left_over (without_directories below unlinked) below now)
+    ascend-left (left_over (without_directories below unlinked) below now)
     (λ e x is. left_key (is_among below e.0) (lives (without_directories below unlinked) e.0 && not (is_directory e.1.content)) e x (stamped now e.1) is)
     0 unlinked.nodes unlinked.next_inode (change _ parent t ordered)
 
@@ -163,7 +150,7 @@ ordered_by t pass now (ops.CacheSize entries) ordered = ordered
 ordered_by t pass now ops.Leave ordered = ascend-filter 0 (λ (e : ℕ × Node). lives (record t { handles = filter (λ h. not (h.1.pass == pass)) t.handles }) e.0) t.nodes t.next_inode ordered
 ordered_by t pass now ops.Unmount ordered = ordered
 
-ordered_if : (t : Tree) (pass now : ℕ) (op : Op) (failure : Option ℕ) → first_failure (checks t pass op) ≡ failure → InOrder t → InOrder (tree_after t pass op now)
+pub ordered_if : (t : Tree) (pass now : ℕ) (op : Op) (failure : Option ℕ) → first_failure (checks t pass op) ≡ failure → InOrder t → InOrder (tree_after t pass op now)
 ordered_if t pass now op (Some errno) is ordered = subst InOrder (sym (tree_at t pass now op (Some errno) is)) ordered
 ordered_if t pass now op None is ordered = subst InOrder (sym (tree_at t pass now op None is)) (ordered_by t pass now op ordered)
 

@@ -1,8 +1,8 @@
 -- What a lock keeps from being done.
-use Rattle.std.specs.Prelude.{◌≡◌, ◌⊎◌, ℕ, Some}
+use Rattle.std.specs.Prelude.{◌≡◌, ◌⊎◌, ℕ, Option, None, Some}
 use Rattle.op_frames.specs.declared.operation.Op.{Op}
 use Rattle.op_frames.specs.declared.operation.Op.TheVariants as ops
-use Rattle.plain_tree.specs.Tree.{Handle, Tree, handle_of}
+use Rattle.plain_tree.specs.Tree.{Node, Handle, Tree, handle_of, stamped}
 use Rattle.plain_tree.specs.Entries.{entry_at}
 
 -- the operation would change the node, the entries in it, or the entry that names it; LockTree changes no more than locks
@@ -25,3 +25,7 @@ WouldChange t pass inode (ops.Rmdir parent name) = (parent ≡ inode) ⊎ (entry
 WouldChange t pass inode (ops.Rename parent name new_parent new_name) =
     (parent ≡ inode) ⊎ ((new_parent ≡ inode) ⊎ ((entry_at t parent name ≡ Some inode) ⊎ (entry_at t new_parent new_name ≡ Some inode)))
 WouldChange t pass inode op = ⊥
+
+-- the node is gone, or as it was but for ctime
+abbrev pub IsKept : Option Node → Node → Type 0
+IsKept found node = (found ≡ None) ⊎ ((time : ℕ) × (found ≡ Some (stamped time node)))
