@@ -3,8 +3,10 @@ pub mod Ascending
 pub mod Bytes
 pub mod Checked
 pub mod Locked
+pub mod Named
 pub mod Nodes
 pub mod Ordered
+pub mod Rising
 pub mod Staying
 pub mod Still
 pub mod Visited

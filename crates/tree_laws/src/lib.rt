@@ -5,10 +5,12 @@ mod changes;
 mod entries;
 mod files;
 mod locks;
+mod names;
 mod numbers;
 
 pub use changes::changes_stay_in_one_node;
 pub use entries::renamed_to_itself_is_as_before;
 pub use files::{truncated_is_cut, written_is_read};
 pub use locks::{locked_nodes_refuse, locked_nodes_stay};
+pub use names::names_stay_in_order;
 pub use numbers::nodes_stay_in_order;
