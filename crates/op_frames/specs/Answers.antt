@@ -3,8 +3,8 @@ use Rattle.std.specs.Prelude.{ℕ, List, [], ◌∷◌, ◌++◌, length, Bool, 
 use Rattle.std.specs.List.{list_all}
 use Rattle.op_frames.specs.declared.reply.Attr.{Attr}
 use Rattle.op_frames.specs.declared.reply.DirEntry.{DirEntry}
-use Rattle.op_frames.specs.declared.reply.Kind.{Kind}
-use Rattle.op_frames.specs.declared.reply.Kind.TheVariants as kinds
+use Rattle.s3_base.specs.declared.node_kind.Kind.{Kind}
+use Rattle.s3_base.specs.declared.node_kind.Kind.TheVariants as kinds
 use Rattle.op_frames.specs.declared.reply.Cause.{Cause}
 use Rattle.op_frames.specs.declared.reply.Cause.TheVariants as causes
 use Rattle.op_frames.specs.declared.reply.Reply.{Reply}

@@ -5,9 +5,9 @@ ghost use Rattle.op_frames.specs.Operations.{u16_field, u32_field, u64_field, na
 ghost use Rattle.op_frames.specs.Frames.{framed};
 ghost use Rattle.op_frames.specs.Answers.{kind_code, cause_code, flag_code, attr_spelling, names_spelling, entry_spelling, entries_spelling, reply_spelling, is_short_name, has_short_name, has_short_data, reply_frame, answer_frame, bad_input_frame};
 
-use crate::{Attr, Cause, DirEntry, DirEntryList, Kind, NameList, Reply};
+use crate::{Attr, Cause, DirEntry, DirEntryList, NameList, Reply};
 use byteorder::{BigEndian, ByteOrder};
-use s3_base::ByteList;
+use s3_base::{ByteList, Kind};
 use std::alloc::{AllocError, Global};
 
 /// The tag of a replay's answer that holds a reply.

@@ -16,7 +16,7 @@ pub use fault::FrameFault;
 pub use laws::{op_frames_differ, step_frames_differ};
 pub use lists::{DirEntryList, NameList};
 pub use operation::{Op, SetFlag, Step};
-pub use reply::{Attr, Cause, DirEntry, Kind, Reply};
+pub use reply::{Attr, Cause, DirEntry, Reply};
 
 #[cfg(test)]
 mod tests;

@@ -1,13 +1,5 @@
 use crate::{DirEntryList, NameList};
-use s3_base::{ByteList, Errno};
-
-/// What a node of the tree is.
-#[derive(Clone, Copy, Debug, PartialEq, Eq)]
-pub enum Kind {
-    Directory,
-    Regular,
-    Link,
-}
+use s3_base::{ByteList, Errno, Kind};
 
 /// The attributes of a node. Times are nanoseconds since 1970-01-01 00:00 UTC, and `size` counts bytes.
 #[derive(Clone, Copy, Debug, PartialEq, Eq)]

@@ -1,5 +1,5 @@
 use super::*;
-use s3_base::{ByteList, Errno};
+use s3_base::{ByteList, Errno, Kind};
 use std::alloc::Global;
 use std::test::*;
 

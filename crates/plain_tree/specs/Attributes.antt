@@ -1,8 +1,8 @@
 -- The attributes of a node.
 use Rattle.std.specs.Prelude.{ℕ, ◌-◌, ◌^◌, ◌==◌, min, length, sum_by, count_by, if◌then◌else◌}
 use Rattle.op_frames.specs.declared.reply.Attr.{Attr}
-use Rattle.op_frames.specs.declared.reply.Kind.{Kind}
-use Rattle.op_frames.specs.declared.reply.Kind.TheVariants as kinds
+use Rattle.s3_base.specs.declared.node_kind.Kind.{Kind}
+use Rattle.s3_base.specs.declared.node_kind.Kind.TheVariants as kinds
 use Rattle.plain_tree.specs.Tree.{Content, Regular, Directory, Link, Node, Tree, root}
 
 abbrev pub kind_of : Content → Kind

@@ -5,8 +5,8 @@ use Rattle.std.specs.Ordering.{nat_cmp, is_lt}
 use Rattle.std.specs.BTreeMap.{insert_entry, is_at}
 use Rattle.std.specs.Cmp.Lexicographic.{slice_cmp}
 use Rattle.op_frames.specs.declared.reply.DirEntry.{DirEntry}
-use Rattle.op_frames.specs.declared.reply.Kind.{Kind}
-use Rattle.op_frames.specs.declared.reply.Kind.TheVariants as kinds
+use Rattle.s3_base.specs.declared.node_kind.Kind.{Kind}
+use Rattle.s3_base.specs.declared.node_kind.Kind.TheVariants as kinds
 use Rattle.plain_tree.specs.Tree.{Node, Tree, node_at}
 use Rattle.plain_tree.specs.Attributes.{kind_of}
 use Rattle.plain_tree.specs.Entries.{entries_of}

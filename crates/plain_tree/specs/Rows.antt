@@ -4,7 +4,7 @@ use Rattle.op_frames.specs.declared.operation.Op.{Op}
 use Rattle.op_frames.specs.declared.reply.Attr.{Attr}
 use Rattle.op_frames.specs.declared.reply.Reply.{Reply}
 use Rattle.op_frames.specs.declared.reply.Reply.TheVariants as replies
-use Rattle.op_frames.specs.declared.reply.Kind.TheVariants as kinds
+use Rattle.s3_base.specs.declared.node_kind.Kind.TheVariants as kinds
 use Rattle.op_frames.specs.Replay.{Request}
 use Rattle.plain_tree.specs.Tree.{Tree, made_tree}
 use Rattle.plain_tree.specs.Calls.{replies_to}

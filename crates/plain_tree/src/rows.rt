@@ -6,7 +6,7 @@ ghost use Rattle.std.specs.Prelude.{◌≡◌, ℕ, ◌+◌, ◌-◌, ◌^◌, L
 ghost use Rattle.op_frames.specs.declared.operation.Op.TheVariants as ops;
 ghost use Rattle.op_frames.specs.declared.operation.SetFlag.TheVariants as flags;
 ghost use Rattle.op_frames.specs.declared.reply.Reply.TheVariants as replies;
-ghost use Rattle.op_frames.specs.declared.reply.Kind.TheVariants as kinds;
+ghost use Rattle.s3_base.specs.declared.node_kind.Kind.TheVariants as kinds;
 ghost use Rattle.plain_tree.specs.Rows.{answers, at, by, file, directory, link, errno};
 
 /// Refutes: a read past the end of a file is filled with zeros.

@@ -91,6 +91,14 @@ impl From<Vec<u8>> for ByteList {
     }
 }
 
+impl Clone for ByteList {
+    ghost is_clone = { λ b c. c ≡ b };
+
+    fn clone(&self) -> Result<Self, AllocError> {
+        ByteList::from_slice(self.bytes.allocator().clone()?, self.bytes.as_slice())
+    }
+}
+
 impl PartialEq for ByteList {
     ghost eq = { pointwise ◌==◌ };
 

@@ -1,7 +1,7 @@
 //! A call of each public function, and devices that fail.
 use crate::{
-    ByteList, Clock, Errno, Failed, FixedClock, MemSink, MemSource, NumberList, Sink, Source,
-    StdClock, StdSink, StdSource, WordList,
+    ByteList, Clock, Errno, Failed, FixedClock, Kind, MemSink, MemSource, NumberList, Sequence,
+    Sink, Source, StdClock, StdSink, StdSource, WordList,
 };
 use std::cmp::Ordering;
 use std::io;
@@ -118,5 +118,22 @@ fn lists(rt: HostRuntime) -> Result<(), Fail> {
     assert!(rt; numbers.contains(5) && !numbers.contains(4));
     assert_eq!(rt; numbers.as_slice(), [5].as_slice());
     assert!(rt; Errno(2) != Errno(3));
+    Ok(())
+}
+
+#[test]
+fn sequences(rt: HostRuntime) -> Result<(), Fail> {
+    let alloc = rt.alloc();
+    let name = ByteList::from_slice(alloc, b"name")?;
+    let mut names = Sequence::new(alloc);
+    assert_eq!(rt; names.len(), 0);
+    names.push(name.clone()?)?;
+    assert_eq!(rt; names.as_slice().len(), 1);
+    assert!(rt; names.as_slice()[0] == name);
+    let kinds = Sequence::from(Vec::from_slice(alloc, &[Kind::Link, Kind::Regular])?);
+    assert_eq!(rt;
+        kinds.into_vec().as_slice(),
+        [Kind::Link, Kind::Regular].as_slice()
+    );
     Ok(())
 }

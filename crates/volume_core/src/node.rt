@@ -9,8 +9,8 @@ ghost use Rattle.plain_tree.specs.Operations.{new_file};
 ghost use Rattle.volume_core.specs.Refusals.{Checks};
 
 use crate::checks::{EEXIST, ENOTDIR, EPERM};
-use op_frames::{Attr, Kind};
-use s3_base::{ByteList, Errno};
+use op_frames::Attr;
+use s3_base::{ByteList, Errno, Kind};
 use std::alloc::{AllocError, Global};
 use std::collections::BTreeMap;
 use std::marker::Model;

@@ -3,8 +3,8 @@ ghost use Rattle.std.specs.Prelude.{IsTrue, IfOk};
 ghost use Rattle.op_frames.specs.Operations.{is_op};
 
 use super::*;
-use op_frames::{Attr, Kind, Op, Reply};
-use s3_base::ByteList;
+use op_frames::{Attr, Op, Reply};
+use s3_base::{ByteList, Kind};
 use std::alloc::Global;
 use std::test::Fail;
 
