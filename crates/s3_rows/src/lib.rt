@@ -1,0 +1,26 @@
+//! The rows of the metadata tables, batches of changes, and the trait of every store of tables.
+#![tactic(auto)]
+
+mod all_tables;
+mod block_rows;
+mod change;
+mod digest;
+mod inode_row;
+mod keeper;
+mod lists;
+mod name_rows;
+mod params;
+mod table_rows;
+
+pub use all_tables::Tables;
+pub use block_rows::{BlockRow, InodeBlockRow, ObjectRow, SlotRow};
+pub use change::{Batch, Change};
+pub use digest::Digest;
+pub use inode_row::InodeRow;
+pub use keeper::{Keeper, KeeperFault};
+pub use lists::{
+    EntryList, InodeBlockList, NamedAttr, NamedAttrList, NamedEntry, SlotList, Spot, SpotList,
+};
+pub use name_rows::{AttrRow, ContentRow, NameRow, TargetRow};
+pub use params::{Params, State};
+pub use table_rows::{Row, RowKey, RowList, TableName};
