@@ -9,3 +9,4 @@ pub mod Pages
 pub mod Rows
 pub mod Subtrees
 pub mod Tree
+pub mod WellFormed
