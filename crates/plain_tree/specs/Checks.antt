@@ -2,6 +2,7 @@
 use Rattle.std.specs.Prelude.{ℕ, ◌+◌, ◌*◌, ◌^◌, ◌==◌, List, [], ◌∷◌, length, Bool, not, ◌&&◌, ◌||◌, nat_lt, nat_le, nat_eq, Option, None, Some, is_some, if◌then◌else◌}
 use Rattle.std.specs.List.{list_any}
 use Rattle.std.specs.Cmp.Lexicographic.{pointwise}
+use Rattle.s3_base.specs.Names.{is_forbidden_name}
 use Rattle.op_frames.specs.declared.operation.SetFlag.{SetFlag}
 use Rattle.op_frames.specs.declared.operation.SetFlag.TheVariants as flags
 use Rattle.plain_tree.specs.Tree.{Regular, Directory, Link, Node, Tree, root, lost_and_found, entry_of}
@@ -16,11 +17,6 @@ abbrev pub first_failure : List (Option ℕ) → Option ℕ
 first_failure [] = None
 first_failure (None ∷ checks) = first_failure checks
 first_failure (Some errno ∷ checks) = Some errno
-
--- empty, with a slash or a zero byte, `.` or `..`
-abbrev pub is_forbidden_name : List ℕ → Bool
-is_forbidden_name name =
-    length name == 0 || list_any (λ b. b == 47 || b == 0) name || pointwise nat_eq name (46 ∷ []) || pointwise nat_eq name (46 ∷ 46 ∷ [])
 
 -- ENAMETOOLONG, EINVAL
 abbrev pub name_check : List ℕ → Option ℕ

@@ -1,4 +1,5 @@
 pub mod Faults
 pub mod Memory
+pub mod Names
 pub mod Stream
 pub mod Writer

@@ -1,8 +1,8 @@
 -- What a change and a batch of changes make of tables.
-use Rattle.std.specs.Prelude.{List, [], ◌∷◌, Some}
+use Rattle.std.specs.Prelude.{List, [], ◌∷◌, Bool, true, Some, is_some}
 use Rattle.s3_rows.specs.declared.change.Change.{Change}
 use Rattle.s3_rows.specs.declared.change.Change.TheVariants as changes
-use Rattle.s3_rows.specs.Keyed.{put, without}
+use Rattle.s3_rows.specs.Keyed.{put, without, row_at}
 use Rattle.s3_rows.specs.Tables.{Tables, by_inode, by_name, by_entry, by_spot, by_block, by_object, by_target, by_attr, by_slot}
 
 -- a put replaces the row of its key, and a delete takes the row of its key away
@@ -36,3 +36,16 @@ tables_after (c ∷ cs) t = tables_after cs (after_change c t)
 abbrev pub tables_after_all : List (List Change) → Tables → Tables
 tables_after_all [] t = t
 tables_after_all (b ∷ bs) t = tables_after_all bs (tables_after b t)
+
+-- a delete of a key that has a row
+abbrev pub finds_row : Change → Tables → Bool
+finds_row (changes.DeleteInode id) t = is_some (row_at by_inode id t.inodes)
+finds_row (changes.DeleteName id) t = is_some (row_at by_name id t.names)
+finds_row (changes.DeleteContent parent name_id) t = is_some (row_at by_entry (parent, name_id) t.contents)
+finds_row (changes.DeleteInodeBlock inode blockno) t = is_some (row_at by_spot (inode, blockno) t.inode_blocks)
+finds_row (changes.DeleteBlock id) t = is_some (row_at by_block id t.blocks)
+finds_row (changes.DeleteObject id) t = is_some (row_at by_object id t.objects)
+finds_row (changes.DeleteTarget inode) t = is_some (row_at by_target inode t.targets)
+finds_row (changes.DeleteAttr inode name_id) t = is_some (row_at by_attr (inode, name_id) t.attrs)
+finds_row (changes.DeleteSlot slot) t = is_some (row_at by_slot slot t.slots)
+finds_row _ t = true

@@ -1,6 +1,11 @@
 pub mod Batches
+pub mod Counts
 pub mod Keyed
+pub mod Made
 pub mod Rows
 pub mod Selections
+pub mod Stores
 pub mod Tables
 pub mod Told
+pub mod Validity
+pub mod Worked

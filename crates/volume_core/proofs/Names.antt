@@ -3,7 +3,7 @@ use Rattle.std.proofs.Common.{◌≡◌, ℕ, Bool, false, List, [], ◌∷◌, 
 use Rattle.std.specs.Prelude.{◌==◌, ◌||◌}
 use Rattle.std.specs.Cmp.Lexicographic.{pointwise}
 use Rattle.std.specs.List.{list_any}
-use Rattle.plain_tree.specs.Checks.{is_forbidden_name}
+use Rattle.s3_base.specs.Names.{is_forbidden_name}
 
 -- where the first three tests fail, the last one decides
 pub forbidden_by_last :

@@ -1,6 +1,7 @@
 //! The checks of the operations that need no tree, and the numbers of the errors.
 ghost use Rattle.std.specs.Prelude.{◌≡◌, ◌<◌, ◌≤◌, ℕ, length, IfOk};
-ghost use Rattle.plain_tree.specs.Checks.{name_check, mode_check, read_length_check, write_end_check, is_forbidden_name};
+ghost use Rattle.s3_base.specs.Names.{is_forbidden_name};
+ghost use Rattle.plain_tree.specs.Checks.{name_check, mode_check, read_length_check, write_end_check};
 ghost use Rattle.volume_core.specs.Refusals.{Checks};
 
 use s3_base::{ByteList, Errno};

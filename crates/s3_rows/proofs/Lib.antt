@@ -1,0 +1,3 @@
+pub mod Batched
+pub mod Placing
+pub mod Tests
