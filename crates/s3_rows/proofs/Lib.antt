@@ -1,3 +1,4 @@
 pub mod Batched
 pub mod Placing
+pub mod Sorting
 pub mod Tests
