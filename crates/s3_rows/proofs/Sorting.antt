@@ -11,7 +11,7 @@ use Rattle.s3_rows.specs.Keyed.{Order, has_key, put, row_at, sorted_by}
 use Rattle.s3_rows.specs.Validity.{differ}
 use Rattle.s3_rows.proofs.Tests.{first, second}
 
-is_equal : (c : Ordering) → IsTrue (is_eq c) → c ≡ Equal
+pub is_equal : (c : Ordering) → IsTrue (is_eq c) → c ≡ Equal
 is_equal Less is = absurd (cc is)
 is_equal Equal is = refl
 is_equal Greater is = absurd (cc is)

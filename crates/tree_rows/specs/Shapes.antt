@@ -1,5 +1,5 @@
 -- A tree with the lengths of files in place of their bytes, and the one that tables have.
-use Rattle.std.specs.Prelude.{◌≡◌, ℕ, List, [], length, map, Bool, Option, None, Some, option_map, unwrap_or}
+use Rattle.std.specs.Prelude.{◌≡◌, ℕ, List, [], length, map, Bool, option_map, unwrap_or}
 use Rattle.s3_base.specs.declared.node_kind.Kind.TheVariants as kinds
 use Rattle.plain_tree.specs.Tree as tree
 use Rattle.s3_rows.specs.Rows.{Inode}

@@ -2,5 +2,7 @@
 #![tactic(auto)]
 
 mod made;
+mod valid;
 
 pub use made::made_tables_are_the_made_tree;
+pub use valid::{stored_counts_are_link_counts, valid_tables_have_one_tree};

@@ -1,0 +1,5 @@
+mod Counting
+mod Listed
+mod Rooted
+mod Shaped
+mod Whole
