@@ -12,6 +12,8 @@ mod lists;
 mod name_rows;
 mod params;
 mod table_rows;
+#[cfg(test)]
+mod tests;
 
 pub use all_tables::Tables;
 pub use block_rows::{BlockRow, InodeBlockRow, ObjectRow, SlotRow};
