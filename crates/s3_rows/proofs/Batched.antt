@@ -8,7 +8,7 @@ use Rattle.s3_rows.specs.Rows.{Inode, Name, Content, InodeBlock, Block, Object, 
 use Rattle.s3_rows.specs.Keyed.{pair_cmp, rises}
 use Rattle.s3_rows.specs.Tables.{Tables, IsOrdered, by_inode, by_name, by_entry, by_spot, by_block, by_object, by_target, by_attr, by_slot}
 use Rattle.s3_rows.specs.Batches.{after_change, finds_row, tables_after}
-use Rattle.s3_rows.proofs.Tests.{left_again}
+use Rattle.s3_rows.proofs.Passing.{left_again}
 use Rattle.s3_rows.proofs.Placing.{absent_left, put_twice, put_rises, left_rises}
 
 pub pair_cmp_total : IsTotalOrder pair_cmp

@@ -1,4 +1,4 @@
 pub mod Batched
 pub mod Placing
 pub mod Sorting
-pub mod Tests
+pub mod Passing

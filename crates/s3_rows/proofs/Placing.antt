@@ -7,7 +7,7 @@ use Rattle.std.specs.declared.cmp.Ordering.{Ordering}
 use Rattle.std.specs.declared.cmp.Ordering.TheVariants.{Less, Equal, Greater}
 use Rattle.std.specs.Ordering.{is_lt, ordering_reverse}
 use Rattle.s3_rows.specs.Keyed.{Order, is_past, has_key, rises, put, without, row_at}
-use Rattle.s3_rows.proofs.Tests.{both, first, second, all_pass, all_left}
+use Rattle.s3_rows.proofs.Passing.{both, first, second, all_pass, all_left}
 
 is_less : (c : Ordering) → IsTrue (is_lt c) → c ≡ Less
 is_less Less is = refl

@@ -9,7 +9,7 @@ use Rattle.std.specs.declared.cmp.Ordering.TheVariants.{Less, Equal, Greater}
 use Rattle.std.specs.Ordering.{is_eq}
 use Rattle.s3_rows.specs.Keyed.{Order, has_key, put, row_at, sorted_by}
 use Rattle.s3_rows.specs.Validity.{differ}
-use Rattle.s3_rows.proofs.Tests.{first, second}
+use Rattle.s3_rows.proofs.Passing.{first, second}
 
 pub is_equal : (c : Ordering) → IsTrue (is_eq c) → c ≡ Equal
 is_equal Less is = absurd (cc is)

@@ -8,7 +8,7 @@ use Rattle.std.specs.declared.cmp.Ordering.{Ordering}
 use Rattle.std.specs.declared.cmp.Ordering.TheVariants.{Less, Equal, Greater}
 use Rattle.std.specs.Ordering.{is_eq, is_lt, ordering_reverse}
 use Rattle.s3_rows.specs.Keyed.{Order, is_past, has_key, rises, row_at}
-use Rattle.s3_rows.proofs.Tests.{first, second, all_pass}
+use Rattle.s3_rows.proofs.Passing.{first, second, all_pass}
 
 -- ---- what is found
 

@@ -12,7 +12,7 @@ use Rattle.s3_rows.specs.Keyed.{has_key, row_at, sorted_by}
 use Rattle.s3_rows.specs.Tables.{Tables}
 use Rattle.s3_rows.specs.Selections.{name_at, bytes_cmp, bytes_of_name, with_entry_name, named_entries, by_entry_name}
 use Rattle.s3_rows.specs.Validity.{finds_of_entry, has_inode, is_directory, any_kind, have_one_name, differ}
-use Rattle.s3_rows.proofs.Tests.{both, first, second}
+use Rattle.s3_rows.proofs.Passing.{both, first, second}
 use Rattle.s3_rows.proofs.Sorting.{any_found, negated, row_at-sorted, count-sorted}
 use Rattle.tree_rows.specs.Shapes.{Directory, entries_in}
 use Rattle.tree_rows.proofs.Counting.{any_follows, sum_by-map}

@@ -20,7 +20,7 @@ use Rattle.s3_rows.specs.Tables.{Tables, by_inode}
 use Rattle.s3_rows.specs.Selections.{inode_at, bytes_cmp, bytes_of_name}
 use Rattle.s3_rows.specs.Counts.{listed_inode_count}
 use Rattle.s3_rows.specs.Validity.{IsValid, finds_of_entry, has_inode, is_directory, any_kind, have_one_name, differ, has_legal_name, counts_inode, is_named_once, is_below_root, leads_to_root, parent_of, is_lost_and_found, lost_and_found, root}
-use Rattle.s3_rows.proofs.Tests.{both, first, second}
+use Rattle.s3_rows.proofs.Passing.{both, first, second}
 use Rattle.s3_rows.proofs.Sorting.{negated, is_equal}
 use Rattle.tree_rows.specs.Shapes.{Represents}
 use Rattle.tree_rows.proofs.Counting.{found_passes, found_all, found_any, some_found, count_none, none_passes}

@@ -17,7 +17,7 @@ use Rattle.s3_rows.specs.Keyed.{rises}
 use Rattle.s3_rows.specs.Tables.{Tables, by_inode}
 use Rattle.s3_rows.specs.Selections.{inode_at}
 use Rattle.s3_rows.specs.Validity.{finds_of_entry, has_inode, is_directory, any_kind, have_one_name, differ}
-use Rattle.s3_rows.proofs.Tests.{both, first, second, all_pass}
+use Rattle.s3_rows.proofs.Passing.{both, first, second, all_pass}
 use Rattle.s3_rows.proofs.Sorting.{negated}
 use Rattle.tree_rows.specs.Shapes.{ContentShape, Regular, Directory, Link, NodeShape, shape_of_node, entries_in, target_in, node_of_row, Represents}
 use Rattle.tree_rows.proofs.Counting.{found_passes, sum_same, sum_swap, count_none, self_found, one_found}
