@@ -1,7 +1,6 @@
 #!/usr/bin/env bash
-# Times the built program over 200,000 and 400,000 Write and Read calls beside `cat` of the same input.
-# Output goes to /dev/null, so that no disk and no reader's pace is measured. It needs python3 to make the input, and writes to
-# a temporary folder alone.
+# Times the built program over 200,000 and 400,000 Write and Read calls beside `cat` of the same input. Both write to a file
+# of a temporary folder. It needs python3 to make the input.
 set -eu
 here=$(cd "$(dirname "$0")/.." && pwd)
 folder=$(mktemp -d)
@@ -16,8 +15,8 @@ seconds() {
   awk -v a="$start" -v b="$end" 'BEGIN { printf "%.3f", b - a }'
 }
 
-replay() { "$here/s3ql" replay 4096 64 8 <"$1" >/dev/null; }
-copy() { cat <"$1" >"$folder/output"; }
+replay() { "$here/s3ql" replay 4096 64 8 <"$1" >"$folder/output"; }
+copy() { cat <"$1" >"$folder/copy"; }
 
 for number in 200000 400000; do
   python3 "$here/bench/make_frames.py" "$number" >"$folder/input"

@@ -16,11 +16,11 @@ is_less Greater is = absurd (cc is)
 
 module _ {K R : Type 0} (o : Order K R) (total : IsTotalOrder o.compare) where
   -- a row after a second one is after a third that the second is after
-  past_both : (a b : K) (r : R) → o.compare a b ≡ Less → IsTrue (is_past o b r) → IsTrue (is_past o a r)
+  pub past_both : (a b : K) (r : R) → o.compare a b ≡ Less → IsTrue (is_past o b r) → IsTrue (is_past o a r)
   past_both a b r below is = ap is_lt (total.trans a b (o.key r) below (is_less (o.compare b (o.key r)) is))
 
   -- after one of two equal keys, so after the other
-  past_same : (a b : K) (r : R) → o.compare a b ≡ Equal → IsTrue (is_past o b r) → IsTrue (is_past o a r)
+  pub past_same : (a b : K) (r : R) → o.compare a b ≡ Equal → IsTrue (is_past o b r) → IsTrue (is_past o a r)
   past_same a b r same is = ap is_lt (total.congr a b (o.key r) same ∙ is_less (o.compare b (o.key r)) is)
 
   pub put_twice : (r : R) (rows : List R) → put o r (put o r rows) ≡ put o r rows

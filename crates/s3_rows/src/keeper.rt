@@ -11,6 +11,7 @@ use crate::{
     TableName, TargetRow,
 };
 use s3_base::{ByteList, NumberList};
+use std::alloc::AllocError;
 
 /// Why a keeper gave no answer.
 #[derive(Clone, Copy, Debug, PartialEq, Eq)]
@@ -19,6 +20,17 @@ pub enum KeeperFault {
     Failed,
     /// There was no memory for the answer or for the change.
     Memory,
+}
+
+impl From<AllocError> for KeeperFault {
+    ghost use Rattle.std.specs.Prelude.{◌≡◌};
+    ghost use Rattle.s3_rows.specs.declared.keeper.KeeperFault.TheVariants.{Memory};
+
+    ghost from_gives = { λ _ fault. fault ≡ Memory };
+
+    fn from(_refused: AllocError) -> Self {
+        KeeperFault::Memory
+    }
 }
 
 /// A store of tables. It may tell its tables and the batches that made them; where it does not, the clauses on rows say
