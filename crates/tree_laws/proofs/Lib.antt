@@ -2,11 +2,16 @@ pub mod Alone
 pub mod Ascending
 pub mod Bytes
 pub mod Checked
+pub mod EachNode
+pub mod Legal
+pub mod Limited
 pub mod Locked
 pub mod Named
 pub mod Nodes
 pub mod Ordered
+pub mod Passing
 pub mod Rising
+pub mod Spelling
 pub mod Staying
 pub mod Still
 pub mod Visited
