@@ -8,6 +8,7 @@ pub mod Gaining
 pub mod Legal
 pub mod Limited
 pub mod Locked
+pub mod Lookups
 pub mod Losing
 pub mod Named
 pub mod Nodes
@@ -18,5 +19,6 @@ pub mod Shape
 pub mod Spelling
 pub mod Staying
 pub mod Still
+pub mod TreeShape
 pub mod Visited
 pub mod Written

@@ -57,7 +57,7 @@ found_if true value node found sound rest is =
     subst Sound same sound
 found_if false value node found sound rest is = rest is
 
-found : (test : ℕ → Bool) (es : List (ℕ × Node)) (node : Node) → NamesRise (values_of es) → lookup test es ≡ Some node → Sound node
+pub found : (test : ℕ → Bool) (es : List (ℕ × Node)) (node : Node) → NamesRise (values_of es) → lookup test es ≡ Some node → Sound node
 found test [] node rise is = absurd (cc is)
 found test (e ∷ es) node rise is = found_if (test e.0) e.1 node (lookup test es) rise.0 (found test es node rise.1) is
 
@@ -138,27 +138,27 @@ changed f keeps (Some node) inode t sound rise = each-set (is_at (nat_cmp inode)
 change : (f : Node → Node) → ((node : Node) → Sound node → Sound (f node)) → (inode : ℕ) (t : Tree) → NamesInOrder t → NamesInOrder (change_node inode f t)
 change f keeps inode t rise = changed f keeps (node_at t inode) inode t (λ node is. found (is_at (nat_cmp inode)) t.nodes node rise is) rise
 
-add : (parent : ℕ) (name : List ℕ) (inode now : ℕ) (t : Tree) → NamesInOrder t → NamesInOrder (add_entry parent name inode now t)
+pub add : (parent : ℕ) (name : List ℕ) (inode now : ℕ) (t : Tree) → NamesInOrder t → NamesInOrder (add_entry parent name inode now t)
 add parent name inode now t rise = change _ (λ node sound. sound-named name inode node.content sound) parent t rise
 
-drop : (parent : ℕ) (name : List ℕ) (now : ℕ) (t : Tree) → NamesInOrder t → NamesInOrder (drop_entry parent name now t)
+pub drop : (parent : ℕ) (name : List ℕ) (now : ℕ) (t : Tree) → NamesInOrder t → NamesInOrder (drop_entry parent name now t)
 drop parent name now t rise = change _ (λ node sound. sound-unnamed name node.content sound) parent t rise
 
-stamp : (now inode : ℕ) (t : Tree) → NamesInOrder t → NamesInOrder (change_node inode (stamped now) t)
+pub stamp : (now inode : ℕ) (t : Tree) → NamesInOrder t → NamesInOrder (change_node inode (stamped now) t)
 stamp now inode t rise = change (stamped now) (λ node sound. sound) inode t rise
 
 either : (test : Bool) (a b : Tree) → NamesInOrder a → NamesInOrder b → NamesInOrder (cond test a b)
 either true a b first second = first
 either false a b first second = second
 
-settle : (inode : ℕ) (t : Tree) → NamesInOrder t → NamesInOrder (settled inode t)
+pub settle : (inode : ℕ) (t : Tree) → NamesInOrder t → NamesInOrder (settled inode t)
 settle inode t rise = either (lives t inode) t (without_node inode t) rise (each-remove (is_at (nat_cmp inode)) t.nodes rise)
 
 lose : (now : ℕ) (inode : Option ℕ) (t : Tree) → NamesInOrder t → NamesInOrder (dropped now inode t)
 lose now None t rise = rise
 lose now (Some inode) t rise = settle inode (change_node inode (stamped now) t) (stamp now inode t rise)
 
-make : (node : Node) (t : Tree) → Sound node → NamesInOrder t → NamesInOrder (with_node node t)
+pub make : (node : Node) (t : Tree) → Sound node → NamesInOrder t → NamesInOrder (with_node node t)
 make node t sound rise = each-insert t.nodes t.next_inode node rise sound
 
 move : (parent : ℕ) (name : List ℕ) (new_parent : ℕ) (new_name : List ℕ) (now : ℕ) (inode : Option ℕ) (t : Tree) → NamesInOrder t

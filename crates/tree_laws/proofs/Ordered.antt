@@ -42,7 +42,7 @@ removed inode t ordered = ascend-remove 0 (is_at (nat_cmp inode)) t.nodes t.next
 pub settle : (inode : ℕ) (t : Tree) → InOrder t → InOrder (settled inode t)
 settle inode t ordered = either (lives t inode) t (without_node inode t) ordered (removed inode t ordered)
 
-made : (node : Node) (t : Tree) → InOrder t → InOrder (with_node node t)
+pub made : (node : Node) (t : Tree) → InOrder t → InOrder (with_node node t)
 made node t ordered = ascend-insert 0 t.nodes t.next_inode node ordered
 
 -- ---- entries
