@@ -21,4 +21,5 @@ pub mod Staying
 pub mod Still
 pub mod TreeShape
 pub mod Visited
+pub mod Walked
 pub mod Written
