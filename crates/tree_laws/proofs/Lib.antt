@@ -3,6 +3,7 @@ pub mod Ascending
 pub mod Branches
 pub mod Bytes
 pub mod Checked
+pub mod CopyShape
 pub mod EachNode
 pub mod Gaining
 pub mod Legal
