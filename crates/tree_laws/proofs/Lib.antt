@@ -20,6 +20,7 @@ pub mod Shape
 pub mod Spelling
 pub mod Staying
 pub mod Still
+pub mod SubtreeShape
 pub mod TreeShape
 pub mod Visited
 pub mod Walked

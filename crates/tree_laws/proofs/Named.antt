@@ -73,7 +73,7 @@ each-remove : (test : ℕ → Bool) (es : List (ℕ × Node)) → NamesRise (val
 each-remove test [] rise = rise
 each-remove test (e ∷ es) rise = each-cond (test e.0) es (e ∷ remove_entry test es) rise.1 (rise.0, each-remove test es rise.1)
 
-each-filter : (test : ℕ × Node → Bool) (es : List (ℕ × Node)) → NamesRise (values_of es) → NamesRise (values_of (filter test es))
+pub each-filter : (test : ℕ × Node → Bool) (es : List (ℕ × Node)) → NamesRise (values_of es) → NamesRise (values_of (filter test es))
 each-filter test [] rise = rise
 each-filter test (e ∷ es) rise = each-cond (test e) (e ∷ filter test es) (filter test es) (rise.0, each-filter test es rise.1) (each-filter test es rise.1)
 
