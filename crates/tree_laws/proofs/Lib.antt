@@ -18,6 +18,7 @@ pub mod Passing
 pub mod Rising
 pub mod Shape
 pub mod Spelling
+pub mod Standing
 pub mod Staying
 pub mod Still
 pub mod SubtreeShape

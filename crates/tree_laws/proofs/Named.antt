@@ -235,7 +235,7 @@ named_by t pass now (ops.CacheSize entries) rise = rise
 named_by t pass now ops.Leave rise = each-filter (λ (e : ℕ × Node). lives (record t { handles = filter (λ h. not (h.1.pass == pass)) t.handles }) e.0) t.nodes rise
 named_by t pass now ops.Unmount rise = rise
 
-named_if : (t : Tree) (pass now : ℕ) (op : Op) (failure : Option ℕ) → first_failure (checks t pass op) ≡ failure → NamesInOrder t → NamesInOrder (tree_after t pass op now)
+pub named_if : (t : Tree) (pass now : ℕ) (op : Op) (failure : Option ℕ) → first_failure (checks t pass op) ≡ failure → NamesInOrder t → NamesInOrder (tree_after t pass op now)
 named_if t pass now op (Some errno) is rise = subst NamesInOrder (sym (tree_at t pass now op (Some errno) is)) rise
 named_if t pass now op None is rise = subst NamesInOrder (sym (tree_at t pass now op None is)) (named_by t pass now op rise)
 
