@@ -15,8 +15,10 @@ pub mod Named
 pub mod Nodes
 pub mod Ordered
 pub mod Passing
+pub mod Renaming
 pub mod Rising
 pub mod Shape
+pub mod Sounding
 pub mod Spelling
 pub mod Standing
 pub mod Staying

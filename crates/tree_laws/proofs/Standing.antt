@@ -49,7 +49,7 @@ folder_content (Directory entries) is = refl
 folder_content (Regular bytes) is = absurd (cc is)
 folder_content (Link target) is = absurd (cc is)
 
-folder_is : (found : Option Node) → node_check found ≡ None → directory_check found ≡ None → kind_in found ≡ Some kinds.Directory
+pub folder_is : (found : Option Node) → node_check found ≡ None → directory_check found ≡ None → kind_in found ≡ Some kinds.Directory
 folder_is None there is = absurd (cc there)
 folder_is (Some node) there is = ap Some (folder_content node.content is)
 
@@ -62,7 +62,7 @@ no_some : (found : Option ℕ) → is_some found ≡ false → found ≡ None
 no_some None is = refl
 no_some (Some y) is = absurd (cc is)
 
-free_is : (found : Option Node) (n : List ℕ) → free_check found n ≡ None → entry_in n found ≡ None
+pub free_is : (found : Option Node) (n : List ℕ) → free_check found n ≡ None → entry_in n found ≡ None
 free_is None n is = refl
 free_is (Some node) n is = no_some (entry_of node.content n) (not_failed 17 _ is)
 
@@ -86,11 +86,11 @@ empty_content (Directory entries) m short = no_entry entries m short
 empty_content (Regular bytes) m short = refl
 empty_content (Link target) m short = refl
 
-empty_is : (found : Option Node) → empty_check found ≡ None → (m : List ℕ) → entry_in m found ≡ None
+pub empty_is : (found : Option Node) → empty_check found ≡ None → (m : List ℕ) → entry_in m found ≡ None
 empty_is None is m = refl
 empty_is (Some node) is m = empty_content node.content m (ltb-false 0 (length (entries_of node.content)) (not_failed 39 _ is))
 
-keep_is : (p : ℕ) (n : List ℕ) → keep_check p n ≡ None → IsPlace root lost_and_found p n → ⊥
+pub keep_is : (p : ℕ) (n : List ℕ) → keep_check p n ≡ None → IsPlace root lost_and_found p n → ⊥
 keep_is p n is place =
     let kept : keep_check root lost_and_found ≡ None = sym (ap (λ k. keep_check k lost_and_found) place.0) ∙ sym (ap (keep_check p) place.1) ∙ is in
     cc kept
@@ -106,7 +106,7 @@ file_entries v grown x file m = no_entries_of v grown x file m (v.entry x m) ref
 
 -- ---- changes of one node
 
-alike : (f : Node → Node) → ((node : Node) → kind_of (f node).content ≡ kind_of node.content) → ((name : List ℕ) (node : Node) → entry_of (f node).content name ≡ entry_of node.content name)
+pub alike : (f : Node → Node) → ((node : Node) → kind_of (f node).content ≡ kind_of node.content) → ((name : List ℕ) (node : Node) → entry_of (f node).content name ≡ entry_of node.content name)
     → (but : ℕ → Type 0) (i : ℕ) (t : Tree) → Grown but (shape_of t) → Grown but (shape_of (change_node i f t))
 alike f kind entry but i t grown = grown_same but (shape_of t) (shape_of (change_node i f t)) (same_shape f kind entry i t) grown
 
@@ -120,14 +120,14 @@ entry_bytes f name (Regular bytes) = refl
 entry_bytes f name (Directory entries) = refl
 entry_bytes f name (Link target) = refl
 
-rewritten : (f : List ℕ → List ℕ) (now i : ℕ) (t : Tree) → Grown NoneGoes (shape_of t) → Grown NoneGoes (shape_of (change_node i (λ node. touched now (record node { content = with_bytes f node.content })) t))
+pub rewritten : (f : List ℕ → List ℕ) (now i : ℕ) (t : Tree) → Grown NoneGoes (shape_of t) → Grown NoneGoes (shape_of (change_node i (λ node. touched now (record node { content = with_bytes f node.content })) t))
 rewritten f now i t grown = alike _ (λ node. kind_bytes f node.content) (λ name node. entry_bytes f name node.content) NoneGoes i t grown
 
-either : (test : Bool) (a b : Tree) → Grown NoneGoes (shape_of a) → (test ≡ false → Grown NoneGoes (shape_of b)) → Grown NoneGoes (shape_of (cond test a b))
+pub either : (test : Bool) (a b : Tree) → Grown NoneGoes (shape_of a) → (test ≡ false → Grown NoneGoes (shape_of b)) → Grown NoneGoes (shape_of (cond test a b))
 either true a b first second = first
 either false a b first second = second refl
 
-stamp : (but : ℕ → Type 0) (now i : ℕ) (t : Tree) → Grown but (shape_of t) → Grown but (shape_of (change_node i (stamped now) t))
+pub stamp : (but : ℕ → Type 0) (now i : ℕ) (t : Tree) → Grown but (shape_of t) → Grown but (shape_of (change_node i (stamped now) t))
 stamp but now i t grown = alike (stamped now) (λ node. refl) (λ name node. refl) but i t grown
 
 -- ---- new nodes and names
@@ -161,7 +161,7 @@ made v t p n node now ordered kind entry opened handled bare grown folder free =
     })
     grown (sym (entry p n) ∙ free) (sym (kind p) ∙ folder)
 
-new_node : (t : Tree) (p : ℕ) (n : List ℕ) (node : Node) (now : ℕ) → Sound t → ((m : List ℕ) → entry_of node.content m ≡ None) → kind_in (node_at t p) ≡ Some kinds.Directory → entry_at t p n ≡ None
+pub new_node : (t : Tree) (p : ℕ) (n : List ℕ) (node : Node) (now : ℕ) → Sound t → ((m : List ℕ) → entry_of node.content m ≡ None) → kind_in (node_at t p) ≡ Some kinds.Directory → entry_at t p n ≡ None
     → Grown NoneGoes (shape_of (add_entry p n t.next_inode now (with_node node t)))
 new_node t p n node now sound bare folder free =
     made (shape_of t) t p n node now sound.ordered (λ y. refl) (λ q m. refl) (λ y differs. refl)
@@ -173,7 +173,7 @@ same_test true b first second = sym (first refl)
 same_test false true first second = second refl
 same_test false false first second = refl
 
-new_file_in : (t : Tree) (pass p : ℕ) (n : List ℕ) (mode uid gid now : ℕ) → Sound t → kind_in (node_at t p) ≡ Some kinds.Directory → entry_at t p n ≡ None
+pub new_file_in : (t : Tree) (pass p : ℕ) (n : List ℕ) (mode uid gid now : ℕ) → Sound t → kind_in (node_at t p) ≡ Some kinds.Directory → entry_at t p n ≡ None
     → Grown NoneGoes (shape_of (add_entry p n t.next_inode now (with_node (new_file mode uid gid now) (with_handle (record { inode = t.next_inode; pass = pass }) t))))
 new_file_in t pass p n mode uid gid now sound folder free =
     let handle : Handle = record { inode = t.next_inode; pass = pass } in
@@ -184,7 +184,7 @@ new_file_in t pass p n mode uid gid now sound folder free =
     (λ is. opened_stays y t.next_handle handle t.handles sound.below is))
     (λ is. refl) (λ m. refl) sound.grown folder free
 
-linked : (t : Tree) (x p : ℕ) (n : List ℕ) (now : ℕ) → Sound t → (found : Option Node) → node_at t x ≡ found → node_check found ≡ None → no_directory_check 1 found ≡ None
+pub linked : (t : Tree) (x p : ℕ) (n : List ℕ) (now : ℕ) → Sound t → (found : Option Node) → node_at t x ≡ found → node_check found ≡ None → no_directory_check 1 found ≡ None
     → kind_in (node_at t p) ≡ Some kinds.Directory → entry_at t p n ≡ None → Grown NoneGoes (shape_of (change_node x (stamped now) (add_entry p n x now t)))
 linked t x p n now sound None is there file folder free = absurd (cc there)
 linked t x p n now sound (Some node) is there file folder free =
@@ -206,7 +206,7 @@ linked t x p n now sound (Some node) is there file folder free =
 
 -- ---- handles
 
-opened_one : (t : Tree) (x pass : ℕ) → Sound t → kind_in (node_at t x) ≡ Some kinds.Regular → Grown NoneGoes (shape_of (with_handle (record { inode = x; pass = pass }) t))
+pub opened_one : (t : Tree) (x pass : ℕ) → Sound t → kind_in (node_at t x) ≡ Some kinds.Regular → Grown NoneGoes (shape_of (with_handle (record { inode = x; pass = pass }) t))
 opened_one t x pass sound file =
     let handle : Handle = record { inode = x; pass = pass } in
     gaining.opened (shape_of t) (shape_of (with_handle handle t))
@@ -226,7 +226,7 @@ handle_is : (t : Tree) (found : Option Handle) (old : List ℕ) → option_and_t
 handle_is t None old is = absurd (cc is)
 handle_is t (Some h) old is = (h, refl, is)
 
-released : (t : Tree) (pass number : ℕ) → Sound t → open_check (open_file t pass number) ≡ None → Grown NoneGoes (shape_of (settled (inode_of (handle_of t pass number)) (without_handle number t)))
+pub released : (t : Tree) (pass number : ℕ) → Sound t → open_check (open_file t pass number) ≡ None → Grown NoneGoes (shape_of (settled (inode_of (handle_of t pass number)) (without_handle number t)))
 released t pass number sound passes =
     let opened = checked.is_open (open_file t pass number) passes in
     let found = handle_is t (handle_of t pass number) opened.0 opened.1 in
@@ -239,11 +239,11 @@ released t pass number sound passes =
 -- ---- entries that go
 
 -- a node that lost an entry is stamped, and goes where nothing keeps it
-lost : (x now : ℕ) (t : Tree) → InOrder t → NamesInOrder t → Grown (Only x) (shape_of t) → Grown NoneGoes (shape_of (settled x (change_node x (stamped now) t)))
+pub lost : (x now : ℕ) (t : Tree) → InOrder t → NamesInOrder t → Grown (Only x) (shape_of t) → Grown NoneGoes (shape_of (settled x (change_node x (stamped now) t)))
 lost x now t ordered names grown =
     settle_shape x (change_node x (stamped now) t) (numbers_by.change (stamped now) x t ordered) (names_by.stamp now x t names) (stamp (Only x) now x t grown)
 
-unlinks : (t : Tree) (p : ℕ) (n : List ℕ) (now : ℕ) → Sound t → (found : Option ℕ) → entry_at t p n ≡ found → keep_check p n ≡ None → entry_check found ≡ None
+pub unlinks : (t : Tree) (p : ℕ) (n : List ℕ) (now : ℕ) → Sound t → (found : Option ℕ) → entry_at t p n ≡ found → keep_check p n ≡ None → entry_check found ≡ None
     → no_directory_check 21 (option_and_then (node_at t) found) ≡ None → Grown NoneGoes (shape_of (dropped now found (drop_entry p n now t)))
 unlinks t p n now sound None is keep there file = absurd (cc there)
 unlinks t p n now sound (Some x) is keep there file =
@@ -252,7 +252,7 @@ unlinks t p n now sound (Some x) is keep there file =
     (losing.unlinked (shape_of t) (shape_of one) p x n (drop_shape p n now t sound.names) sound.grown is (keep_is p n keep)
     (file_entries (shape_of t) sound.grown x (no_folder_is 21 (node_at t x) file)))
 
-unmade : (t : Tree) (p : ℕ) (n : List ℕ) (now : ℕ) → Sound t → (found : Option ℕ) → entry_at t p n ≡ found → keep_check p n ≡ None → entry_check found ≡ None
+pub unmade : (t : Tree) (p : ℕ) (n : List ℕ) (now : ℕ) → Sound t → (found : Option ℕ) → entry_at t p n ≡ found → keep_check p n ≡ None → entry_check found ≡ None
     → directory_check (option_and_then (node_at t) found) ≡ None → empty_check (option_and_then (node_at t) found) ≡ None
     → Grown NoneGoes (shape_of (without_node (unwrap_or found 0) (drop_entry p n now t)))
 unmade t p n now sound None is keep there folder empty = absurd (cc there)
@@ -269,7 +269,7 @@ unmade t p n now sound (Some x) is keep there folder empty =
     let both_ways : Some kinds.Directory ≡ Some kinds.Regular = sym still ∙ grown.handles x opened in
     cc both_ways)
 
-uprooted : (t : Tree) (p : ℕ) (n : List ℕ) (now : ℕ) → Sound t → (found : Option ℕ) → entry_at t p n ≡ found → keep_check p n ≡ None → entry_check found ≡ None
+pub uprooted : (t : Tree) (p : ℕ) (n : List ℕ) (now : ℕ) → Sound t → (found : Option ℕ) → entry_at t p n ≡ found → keep_check p n ≡ None → entry_check found ≡ None
     → directory_check (option_and_then (node_at t) found) ≡ None → Grown NoneGoes (shape_of (without_tree p n now found t))
 uprooted t p n now sound None is keep there folder = absurd (cc there)
 uprooted t p n now sound (Some x) is keep there folder =
@@ -278,7 +278,7 @@ uprooted t p n now sound (Some x) is keep there folder =
     (uproot_shape p n now x t sound.ordered sound.names sound.grown.rooted)
     (record { names = is; folder = folder_of (node_at t x) node.0 node.1 folder; other = keep_is p n keep; below = below_shape t sound.names x }) sound.grown
 
-copied : (t : Tree) (source p : ℕ) (n : List ℕ) (now : ℕ) → Sound t → kind_in (node_at t source) ≡ Some kinds.Directory → kind_in (node_at t p) ≡ Some kinds.Directory → entry_at t p n ≡ None
+pub copied : (t : Tree) (source p : ℕ) (n : List ℕ) (now : ℕ) → Sound t → kind_in (node_at t source) ≡ Some kinds.Directory → kind_in (node_at t p) ≡ Some kinds.Directory → entry_at t p n ≡ None
     → Grown NoneGoes (shape_of (with_copy source p n now t))
 copied t source p n now sound folder parent free =
     let below = below_shape t sound.names source in
