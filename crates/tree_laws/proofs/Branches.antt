@@ -1,9 +1,9 @@
 -- Whole subtrees that go or are copied, and the tree of names that comes of it.
-use Rattle.std.proofs.Common.{◌≡◌, ◌≢◌, ℕ, zero, suc, List, Bool, true, false, cond, Option, None, Some, refl, sym, ap, ◌∙◌, ◌⊎◌, inl, inr, subst}
+use Rattle.std.proofs.Common.{◌≡◌, ◌≢◌, ℕ, zero, suc, List, Bool, true, false, None, Some, refl, sym, ap, ◌∙◌, ◌⊎◌, inl, inr, subst}
 use Rattle.s3_base.specs.declared.node_kind.Kind.{Kind}
 use Rattle.s3_base.specs.declared.node_kind.Kind.TheVariants as kinds
 use Rattle.plain_tree.specs.Tree.{root, lost_and_found}
-use Rattle.tree_laws.proofs.Gaining.{IsBelow, outside, inside, root_inside, downwards, no_round}
+use Rattle.tree_laws.proofs.Gaining.{IsBelow, outside, root_inside, downwards, no_round}
 use Rattle.tree_laws.proofs.Losing.{none_some}
 use Rattle.tree_laws.proofs.Shape.{Shape, Leads, IsUnnamed, Grown, NoneGoes, IsPlace, cases_place, one_entry, not_there, leads_on}
 
@@ -107,8 +107,11 @@ uprooted v w p x n among uproots can grown =
     record {
       rooted = uproots.outside_kind root root_is_out ∙ grown.rooted;
       top = λ q m is. grown.top q m (old q root m is);
-      kept = (grown.kept.0, uproots.rest root lost_and_found root_is_out keep_differs ∙ grown.kept.1,
-      uproots.outside_kind grown.kept.0 (folder_out v p x n among can grown root grown.kept.0 lost_and_found grown.kept.2 grown.kept.1 root_is_out keep_differs (among grown.kept.0) refl) ∙ grown.kept.2);
+      kept = (
+        grown.kept.0,
+        uproots.rest root lost_and_found root_is_out keep_differs ∙ grown.kept.1,
+        uproots.outside_kind grown.kept.0 (folder_out v p x n among can grown root grown.kept.0 lost_and_found grown.kept.2 grown.kept.1 root_is_out keep_differs (among grown.kept.0) refl) ∙ grown.kept.2,
+      );
       holds = λ q y m is.
           let was = left_entry v w p n among uproots q y m is (among q) refl in
           uproots.outside_kind q was.0 ∙ grown.holds q y m was.2;

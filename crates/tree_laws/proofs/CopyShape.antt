@@ -1,28 +1,27 @@
 -- The shape of a tree with a copy of a subtree.
-use Rattle.std.proofs.Common.{◌≡◌, ◌≢◌, ◌≤◌, ◌<◌, ℕ, zero, suc, ◌+◌, List, [], ◌∷◌, ◌++◌, Bool, true, false, cond, Option, None, Some, refl, sym, ap, ◌∙◌, ◌⊎◌, inl, inr, arith}
-use Rattle.std.specs.Prelude.{◌==◌, ◌||◌, length, map, fold}
+use Rattle.std.proofs.Common.{◌≡◌, ◌≢◌, ◌≤◌, ℕ, zero, suc, ◌+◌, List, [], ◌∷◌, ◌++◌, Bool, true, false, cond, Option, None, Some, refl, sym, ap, ◌∙◌, ◌⊎◌, inl, inr, arith}
+use Rattle.std.specs.Prelude.{◌==◌, ◌||◌, length, fold}
 use Rattle.std.specs.BTreeMap.{is_at}
 use Rattle.std.specs.Cmp.Lexicographic.{slice_cmp}
-use Rattle.std.specs.Map.{keys_of, lookup}
+use Rattle.std.specs.Map.{lookup}
 use Rattle.std.specs.Option.{option_map}
 use Rattle.std.specs.Ordering.{nat_cmp}
-use Rattle.std.proofs.lemmas.Bool.{cases_eq, eqb-true, eq-eqb, ne_eqb}
+use Rattle.std.proofs.lemmas.Bool.{cases_eq, eqb-true, eq-eqb}
 use Rattle.std.proofs.lemmas.List.{append-nil, append_assoc}
 use Rattle.std.proofs.lemmas.Map.Made.{lookup-map_values}
 use Rattle.s3_base.specs.declared.node_kind.Kind.{Kind}
 use Rattle.s3_base.specs.declared.node_kind.Kind.TheVariants as kinds
 use Rattle.plain_tree.specs.Attributes.{kind_of}
 use Rattle.plain_tree.specs.Below.{is_among, children, walk, at_and_below}
-use Rattle.plain_tree.specs.Entries.{entry_at, add_entry}
+use Rattle.plain_tree.specs.Entries.{entry_at}
 use Rattle.plain_tree.specs.Subtrees.{place_of, copy_number, copied_content, copied_node, copies, with_copy}
 use Rattle.plain_tree.specs.Tree.{Content, Regular, Directory, Link, Node, Tree, node_at, entry_of}
-use Rattle.tree_laws.specs.Names.{NamesInOrder}
 use Rattle.tree_laws.specs.Numbers.{InOrder}
-use Rattle.tree_laws.proofs.Branches.{Copies, CanCopy, IsCopy, IsCopiedEntry}
+use Rattle.tree_laws.proofs.Branches.{Copies}
 use Rattle.tree_laws.proofs.Losing.{none_some}
 use Rattle.tree_laws.proofs.Lookups.{left_true, right_true}
 use Rattle.tree_laws.proofs.Nodes.{same_number, other_number, own_number}
-use Rattle.tree_laws.proofs.Shape.{Shape, IsPlace, cases_place, one_entry, not_there}
+use Rattle.tree_laws.proofs.Shape.{IsPlace, cases_place, one_entry, not_there}
 use Rattle.tree_laws.proofs.Still.{present}
 use Rattle.tree_laws.proofs.TreeShape.{kind_in, entry_in, shape_of, Links, add_shape}
 

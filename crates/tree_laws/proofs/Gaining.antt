@@ -1,11 +1,11 @@
 -- Entries and nodes that come or move, and the tree of names that comes of it.
-use Rattle.std.proofs.Common.{◌≡◌, ◌≢◌, ℕ, zero, suc, List, Bool, true, false, cond, Option, None, Some, refl, sym, ap, ◌∙◌, ◌⊎◌, inl, inr, subst}
+use Rattle.std.proofs.Common.{◌≡◌, ◌≢◌, ℕ, zero, suc, List, Bool, true, false, None, Some, refl, sym, ap, ◌∙◌, ◌⊎◌, inl, inr, subst}
 use Rattle.std.proofs.lemmas.Bool.{cases_eq}
 use Rattle.s3_base.specs.declared.node_kind.Kind.{Kind}
 use Rattle.s3_base.specs.declared.node_kind.Kind.TheVariants as kinds
 use Rattle.plain_tree.specs.Tree.{root, lost_and_found}
 use Rattle.tree_laws.proofs.Losing.{none_some}
-use Rattle.tree_laws.proofs.Shape.{Shape, Leads, IsUnnamed, Grown, NoneGoes, IsPlace, cases_place, one_entry, not_there, leads_on}
+use Rattle.tree_laws.proofs.Shape.{Shape, Leads, Grown, NoneGoes, IsPlace, cases_place, one_entry, not_there, leads_on}
 
 -- ---- a handle that is opened
 
@@ -271,9 +271,12 @@ leads_outside but v w p np x n nn among moves can zero y out leads = leads
 leads_outside but v w p np x n nn among moves can (suc steps) y out leads =
     let apart : y ≢ x = λ same.
     let both_ways : true ≡ false = sym can.below.itself ∙ ap among (sym same) ∙ out in
-    cc both_ways in
-    (leads.0, leads.1, after_move but v w p np x n nn among moves can leads.0 y leads.1 apart leads.2,
-    leads_outside but v w p np x n nn among moves can steps leads.0 (outside v x among can.below leads.0 y leads.1 out leads.2) leads.3)
+    cc both_ways in (
+      leads.0,
+      leads.1,
+      after_move but v w p np x n nn among moves can leads.0 y leads.1 apart leads.2,
+      leads_outside but v w p np x n nn among moves can steps leads.0 (outside v x among can.below leads.0 y leads.1 out leads.2) leads.3,
+    )
 
 leads_moved : (but : ℕ → Type 0) (v w : Shape) (p np x : ℕ) (n nn : List ℕ) (among : ℕ → Bool) → Moves v w p n np nn x → CanMove but v p n np nn x among → Grown but v → (steps y : ℕ)
     → Leads v.entry steps y → v.kind y ≡ Some kinds.Directory → (test : Bool) → among y ≡ test → (more : ℕ) × Leads w.entry more y
@@ -290,9 +293,11 @@ moved but v w p np x n nn among moves can grown =
     record {
       rooted = moves.kind root ∙ grown.rooted;
       top = λ q m is. grown.top q m (before_move v w p np x n nn moves q root m not_root is);
-      kept = (grown.kept.0,
-      moves.rest root lost_and_found (λ same. can.other (sym same.0, sym same.1)) (λ same. not_there v.entry np nn root lost_and_found grown.kept.0 same can.free grown.kept.1) ∙ grown.kept.1,
-      moves.kind grown.kept.0 ∙ grown.kept.2);
+      kept = (
+        grown.kept.0,
+        moves.rest root lost_and_found (λ same. can.other (sym same.0, sym same.1)) (λ same. not_there v.entry np nn root lost_and_found grown.kept.0 same can.free grown.kept.1) ∙ grown.kept.1,
+        moves.kind grown.kept.0 ∙ grown.kept.2,
+      );
       holds = λ q y m is.
           elim (cases_place np nn q m) [
             | inl new ↦ moves.kind q ∙ ap v.kind new.0 ∙ can.folder

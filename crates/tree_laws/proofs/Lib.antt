@@ -4,8 +4,10 @@ pub mod Branches
 pub mod Bytes
 pub mod Checked
 pub mod CopyShape
+pub mod Counted
 pub mod EachNode
 pub mod Gaining
+pub mod Lasting
 pub mod Legal
 pub mod Limited
 pub mod Locked

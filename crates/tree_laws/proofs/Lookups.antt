@@ -1,6 +1,6 @@
 -- What a look-up finds among entries that were inserted, removed or filtered.
-use Rattle.std.proofs.Common.{◌≡◌, ◌≢◌, ◌<◌, ℕ, ◌+◌, List, [], ◌∷◌, ◌++◌, Bool, true, false, cond, Option, None, Some, refl, sym, ap, ◌∙◌, ◌⊎◌, inl, inr, arith}
-use Rattle.std.specs.Prelude.{◌==◌, ◌||◌, map}
+use Rattle.std.proofs.Common.{◌≡◌, ◌≢◌, ℕ, ◌+◌, List, [], ◌∷◌, Bool, true, false, cond, Option, None, Some, refl, sym, ap, ◌∙◌, ◌⊎◌, inl, inr, arith}
+use Rattle.std.specs.Prelude.{◌==◌, ◌||◌}
 use Rattle.std.specs.BTreeMap.{is_at, insert_entry}
 use Rattle.std.specs.Cmp.Lexicographic.{slice_cmp}
 use Rattle.std.specs.List.{list_any}
@@ -96,7 +96,7 @@ pub above : (low name : List ℕ) (es : List (List ℕ × ℕ)) (v : ℕ) → Ri
 above low name [] v rise is = absurd (cc is)
 above low name (e ∷ es) v rise is = above_if low name e _ v (is_at (slice_cmp nat_cmp name) e.0) refl rise.0 (above e.0 name es v rise.1) is
 
-not_below : (name : List ℕ) → slice_cmp nat_cmp name name ≡ Less → ⊥
+pub not_below : (name : List ℕ) → slice_cmp nat_cmp name name ≡ Less → ⊥
 not_below name is =
     let both_ways : Less ≡ Equal = sym is ∙ tied_itself nat_list_cmp_total name in
     cc both_ways
@@ -136,12 +136,12 @@ left_true true b is = refl
 left_true false b is = absurd (cc is)
 
 -- a later name is found past the first
-past_first : (name : List ℕ) (e : List ℕ × ℕ) (es : List (List ℕ × ℕ)) (y : ℕ) → RiseFrom e.0 (keys_of es) → lookup (is_at (slice_cmp nat_cmp name)) es ≡ Some y
+pub past_first : (name : List ℕ) (e : List ℕ × ℕ) (es : List (List ℕ × ℕ)) (y : ℕ) → RiseFrom e.0 (keys_of es) → lookup (is_at (slice_cmp nat_cmp name)) es ≡ Some y
     → lookup (is_at (slice_cmp nat_cmp name)) (e ∷ es) ≡ Some y
 past_first name e es y rise is =
     ap (λ b. cond b (Some e.1) (lookup (is_at (slice_cmp nat_cmp name)) es)) (other_name name e.0 (λ same. not_below e.0 (ap (slice_cmp nat_cmp e.0) (sym same) ∙ above e.0 name es y rise is))) ∙ is
 
-named_from : (y : ℕ) (low : List ℕ) (es : List (List ℕ × ℕ)) → RiseFrom low (keys_of es) → list_any (λ e. e.1 == y) es ≡ true → (name : List ℕ) × (lookup (is_at (slice_cmp nat_cmp name)) es ≡ Some y)
+pub named_from : (y : ℕ) (low : List ℕ) (es : List (List ℕ × ℕ)) → RiseFrom low (keys_of es) → list_any (λ e. e.1 == y) es ≡ true → (name : List ℕ) × (lookup (is_at (slice_cmp nat_cmp name)) es ≡ Some y)
 named_from y low [] rise is = absurd (cc is)
 named_from y low (e ∷ es) rise is =
     elim (either_true (e.1 == y) (list_any (λ e. e.1 == y) es) is) [

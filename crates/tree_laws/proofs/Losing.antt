@@ -1,5 +1,5 @@
 -- Entries and nodes that go, and the tree of names that is left.
-use Rattle.std.proofs.Common.{◌≡◌, ◌≢◌, ℕ, zero, suc, List, Bool, true, false, cond, Option, None, Some, refl, sym, ap, ◌∙◌, ◌⊎◌, inl, inr, subst}
+use Rattle.std.proofs.Common.{◌≡◌, ◌≢◌, ℕ, zero, suc, List, Bool, true, false, cond, Option, None, Some, refl, sym, ap, ◌∙◌, inl, inr}
 use Rattle.std.proofs.lemmas.Bool.{cases_eq}
 use Rattle.s3_base.specs.declared.node_kind.Kind.{Kind}
 use Rattle.s3_base.specs.declared.node_kind.Kind.TheVariants as kinds
@@ -35,9 +35,12 @@ fewer v w p n unlinks q y m is =
 leads_past : (v w : Shape) (p x : ℕ) (n : List ℕ) → Unlinks v w p n → v.entry p n ≡ Some x → ((m : List ℕ) → v.entry x m ≡ None) → (steps y : ℕ) → y ≢ x → Leads v.entry steps y
     → Leads w.entry steps y
 leads_past v w p x n unlinks names empty zero y apart leads = leads
-leads_past v w p x n unlinks names empty (suc steps) y apart leads =
-    (leads.0, leads.1, unlinks.rest leads.0 leads.1 (λ same. apart (one_entry v.entry p n leads.0 leads.1 x y same names leads.2)) ∙ leads.2,
-    leads_past v w p x n unlinks names empty steps leads.0 (λ same. none_some _ y (empty leads.1) (ap (λ k. v.entry k leads.1) (sym same) ∙ leads.2)) leads.3)
+leads_past v w p x n unlinks names empty (suc steps) y apart leads = (
+  leads.0,
+  leads.1,
+  unlinks.rest leads.0 leads.1 (λ same. apart (one_entry v.entry p n leads.0 leads.1 x y same names leads.2)) ∙ leads.2,
+  leads_past v w p x n unlinks names empty steps leads.0 (λ same. none_some _ y (empty leads.1) (ap (λ k. v.entry k leads.1) (sym same) ∙ leads.2)) leads.3,
+)
 
 pub unlinked : (v w : Shape) (p x : ℕ) (n : List ℕ) → Unlinks v w p n → Grown NoneGoes v → v.entry p n ≡ Some x → (IsPlace root lost_and_found p n → ⊥) → ((m : List ℕ) → v.entry x m ≡ None)
     → Grown (Only x) w

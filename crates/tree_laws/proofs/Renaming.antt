@@ -1,5 +1,5 @@
 -- One tree of names without orphans, through a rename.
-use Rattle.std.proofs.Common.{◌≡◌, ◌≢◌, ℕ, List, [], Bool, true, false, cond, Option, None, Some, refl, sym, ap, ◌∙◌, ◌⊎◌, inl, inr, subst}
+use Rattle.std.proofs.Common.{◌≡◌, ◌≢◌, ℕ, List, [], Bool, true, false, cond, Option, None, Some, refl, sym, ap, ◌∙◌, inl, inr, subst}
 use Rattle.std.specs.Prelude.{◌==◌, ◌&&◌, option_and_then}
 use Rattle.std.proofs.lemmas.Bool.{eqb-true, eq-eqb, ne_eqb}
 use Rattle.s3_base.specs.declared.node_kind.Kind.{Kind}
@@ -13,12 +13,12 @@ use Rattle.plain_tree.specs.Subtrees.{is_same, dropped, moved_entry}
 use Rattle.plain_tree.specs.Tree.{Content, Regular, Directory, Link, Node, Tree, node_at, change_node, stamped}
 use Rattle.tree_laws.specs.Names.{NamesInOrder}
 use Rattle.tree_laws.specs.Numbers.{InOrder}
-use Rattle.tree_laws.proofs.Gaining.{IsBelow, Moves, CanMove, moved}
+use Rattle.tree_laws.proofs.Gaining.{IsBelow, Moves, moved}
 use Rattle.tree_laws.proofs.Losing.{Unlinks, none_some, unlinked}
 use Rattle.tree_laws.proofs.Named as names_by
 use Rattle.tree_laws.proofs.Ordered as numbers_by
 use Rattle.tree_laws.proofs.Passing.{AllPass, not_failed}
-use Rattle.tree_laws.proofs.Shape.{Shape, Grown, NoneGoes, Only, IsPlace, one_entry, not_there, Same}
+use Rattle.tree_laws.proofs.Shape.{Grown, NoneGoes, Only, IsPlace, one_entry, not_there, Same}
 use Rattle.tree_laws.proofs.Standing.{Sound, empty_is, keep_is, lost}
 use Rattle.tree_laws.proofs.TreeShape.{kind_in, shape_of, same_shape, drop_shape, Links, add_shape}
 use Rattle.tree_laws.proofs.Walked.{below_shape}
@@ -29,12 +29,12 @@ record Branch (t : Tree) (x np : ℕ) : Type 0 where
   pub below : IsBelow (shape_of t) x among
   pub outside : among np ≡ false
 
-folder_content : (content : Content) → kind_of content ≡ kinds.Directory → is_directory content ≡ true
+pub folder_content : (content : Content) → kind_of content ≡ kinds.Directory → is_directory content ≡ true
 folder_content (Directory entries) is = refl
 folder_content (Regular bytes) is = absurd (cc is)
 folder_content (Link target) is = absurd (cc is)
 
-is_a_folder : (found : Option Node) → kind_in found ≡ Some kinds.Directory → is_folder found ≡ true
+pub is_a_folder : (found : Option Node) → kind_in found ≡ Some kinds.Directory → is_folder found ≡ true
 is_a_folder None is = absurd (cc is)
 is_a_folder (Some node) is =
     let same : kind_of node.content ≡ kinds.Directory = cc is in

@@ -1,11 +1,10 @@
 -- One tree of names without orphans, after any calls.
-use Rattle.std.proofs.Common.{◌≡◌, ◌≢◌, ℕ, List, [], ◌∷◌, Bool, true, false, cond, Option, None, Some, refl, sym, ap, ◌∙◌, subst, arith}
-use Rattle.std.specs.Prelude.{◌==◌, not, length, unwrap_or}
+use Rattle.std.proofs.Common.{◌≡◌, ℕ, List, [], ◌∷◌, Option, None, Some, refl, sym, ap, ◌∙◌, subst}
+use Rattle.std.specs.Prelude.{◌==◌, not, length}
 use Rattle.std.specs.List.{filter}
 use Rattle.op_frames.specs.declared.operation.Op.{Op}
 use Rattle.op_frames.specs.declared.operation.Op.TheVariants as ops
 use Rattle.op_frames.specs.Replay.{Request}
-use Rattle.s3_base.specs.declared.node_kind.Kind.TheVariants as kinds
 use Rattle.plain_tree.specs.Attributes.{kind_of}
 use Rattle.plain_tree.specs.Calls.{tree_after_all}
 use Rattle.plain_tree.specs.Checks.{first_failure}
@@ -13,7 +12,7 @@ use Rattle.plain_tree.specs.Entries.{entry_at, lives}
 use Rattle.plain_tree.specs.Files.{inode_of, written_at, resized}
 use Rattle.plain_tree.specs.Operations.{checks, effect, tree_after, new_directory, new_link}
 use Rattle.plain_tree.specs.Subtrees.{with_lock, without_pass}
-use Rattle.plain_tree.specs.Tree.{Tree, made_tree, node_at, handle_of}
+use Rattle.plain_tree.specs.Tree.{Tree, node_at, handle_of}
 use Rattle.plain_tree.proofs.Changes.{change_after}
 use Rattle.plain_tree.proofs.Handles.{below-change}
 use Rattle.plain_tree.proofs.Replies.{tree_at}
@@ -81,7 +80,7 @@ grown_if : (t : Tree) (pass now : ℕ) (op : Op) (failure : Option ℕ) → firs
 grown_if t pass now op (Some errno) is sound = subst (λ after. Grown NoneGoes (shape_of after)) (sym (tree_at t pass now op (Some errno) is)) sound.grown
 grown_if t pass now op None is sound = subst (λ after. Grown NoneGoes (shape_of after)) (sym (tree_at t pass now op None is)) (grown_by t pass now op is sound)
 
-sound_after : (t : Tree) (calls : List Request) → Sound t → Sound (tree_after_all t calls)
+pub sound_after : (t : Tree) (calls : List Request) → Sound t → Sound (tree_after_all t calls)
 sound_after t [] sound = sound
 sound_after t (call ∷ calls) sound =
     let after : Tree = tree_after t call.pass call.op call.now in

@@ -1,38 +1,35 @@
 -- One tree of names without orphans, through every operation.
-use Rattle.std.proofs.Common.{◌≡◌, ◌≢◌, ◌≤◌, ◌<◌, ℕ, ◌+◌, List, [], ◌∷◌, ◌++◌, Bool, true, false, cond, Option, None, Some, refl, sym, ap, ◌∙◌, ◌⊎◌, inl, inr, subst, arith}
-use Rattle.std.specs.Prelude.{◌==◌, ◌&&◌, not, nat_lt, nat_eq, length, is_some, unwrap_or, option_and_then, All}
+use Rattle.std.proofs.Common.{◌≡◌, ◌≢◌, ◌≤◌, ℕ, List, [], ◌∷◌, Bool, true, false, cond, Option, None, Some, refl, sym, ap, ◌∙◌, inl, inr, subst, arith}
+use Rattle.std.specs.Prelude.{length, is_some, unwrap_or, option_and_then}
 use Rattle.std.specs.BTreeMap.{is_at}
-use Rattle.std.specs.Cmp.Lexicographic.{slice_cmp, pointwise}
-use Rattle.std.specs.List.{list_any, filter}
-use Rattle.std.specs.Map.{keys_of, lookup}
+use Rattle.std.specs.Cmp.Lexicographic.{slice_cmp}
+use Rattle.std.specs.Map.{lookup}
 use Rattle.std.specs.Ordering.{nat_cmp}
-use Rattle.std.proofs.lemmas.Bool.{cases_eq, eqb-true, eq-eqb, ne_eqb, ltb-false}
-use Rattle.op_frames.specs.declared.operation.Op.{Op}
-use Rattle.op_frames.specs.declared.operation.Op.TheVariants as ops
+use Rattle.std.proofs.lemmas.Bool.{cases_eq, ltb-false}
 use Rattle.s3_base.specs.declared.node_kind.Kind.{Kind}
 use Rattle.s3_base.specs.declared.node_kind.Kind.TheVariants as kinds
 use Rattle.plain_tree.specs.Attributes.{kind_of}
-use Rattle.plain_tree.specs.Below.{is_among, at_and_below, is_at_or_below}
-use Rattle.plain_tree.specs.Checks.{first_failure, fails_with, node_check, directory_check, free_check, no_directory_check, empty_check, keep_check, entry_check, open_check}
-use Rattle.plain_tree.specs.Entries.{entries_of, is_directory, is_folder, entry_at, child_at, is_open, lives, settled, add_entry, drop_entry}
-use Rattle.plain_tree.specs.Files.{file_at, open_file, inode_of, with_bytes, written_at, resized}
-use Rattle.plain_tree.specs.Operations.{checks, effect, move_checks, new_file, new_directory, new_link, HandlesBelow}
-use Rattle.plain_tree.specs.Subtrees.{is_same, dropped, moved_entry, copy_number, with_copy, with_lock, without_tree, without_pass}
+use Rattle.plain_tree.specs.Below.{is_among, at_and_below}
+use Rattle.plain_tree.specs.Checks.{node_check, directory_check, free_check, no_directory_check, empty_check, keep_check, entry_check, open_check}
+use Rattle.plain_tree.specs.Entries.{entries_of, is_directory, entry_at, is_open, settled, add_entry, drop_entry}
+use Rattle.plain_tree.specs.Files.{file_at, open_file, inode_of, with_bytes}
+use Rattle.plain_tree.specs.Operations.{new_file, HandlesBelow}
+use Rattle.plain_tree.specs.Subtrees.{dropped, copy_number, with_copy, without_tree}
 use Rattle.plain_tree.specs.Tree.{Content, Regular, Directory, Link, Node, Handle, Tree, root, lost_and_found, node_at, entry_of, handle_of, change_node, with_node, with_handle, without_handle, without_node, touched, stamped}
 use Rattle.tree_laws.specs.Names.{NamesInOrder}
 use Rattle.tree_laws.specs.Numbers.{InOrder}
 use Rattle.tree_laws.proofs.Branches as branches
 use Rattle.tree_laws.proofs.Checked as checked
-use Rattle.tree_laws.proofs.CopyShape.{none_at, copy_shape, kind_some, entry_some}
+use Rattle.tree_laws.proofs.CopyShape.{none_at, copy_shape}
 use Rattle.tree_laws.proofs.Gaining as gaining
 use Rattle.tree_laws.proofs.Losing as losing
 use Rattle.tree_laws.proofs.Losing.{none_some}
 use Rattle.tree_laws.proofs.Named as names_by
 use Rattle.tree_laws.proofs.Nodes.{node_of_file}
 use Rattle.tree_laws.proofs.Ordered as numbers_by
-use Rattle.tree_laws.proofs.Passing.{AllPass, all_pass, not_failed}
-use Rattle.tree_laws.proofs.Shape.{Shape, IsUnnamed, Grown, NoneGoes, Only, IsPlace, cases_place, one_entry, not_there, Same, grown_same}
-use Rattle.tree_laws.proofs.SubtreeShape.{lock_shape, own_is, close_shape, leave_shape, uproot_shape}
+use Rattle.tree_laws.proofs.Passing.{not_failed}
+use Rattle.tree_laws.proofs.Shape.{Shape, Grown, NoneGoes, Only, IsPlace, grown_same}
+use Rattle.tree_laws.proofs.SubtreeShape.{own_is, close_shape, uproot_shape}
 use Rattle.tree_laws.proofs.TreeShape.{kind_in, entry_in, shape_of, same_shape, drop_shape, Links, add_shape, node_made, node_kept, remove_shape, settle_shape, opened_was, opened_stays}
 use Rattle.tree_laws.proofs.Walked.{below_shape}
 

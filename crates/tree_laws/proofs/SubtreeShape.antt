@@ -1,21 +1,20 @@
 -- The shape of a tree in which a subtree is locked or removed, a handle is closed, or a pass leaves.
-use Rattle.std.proofs.Common.{◌≡◌, ◌≢◌, ◌≤◌, ◌<◌, ℕ, ◌+◌, List, [], ◌∷◌, Bool, true, false, cond, Option, None, Some, refl, sym, ap, ◌∙◌, ◌⊎◌, inl, inr, subst, arith}
+use Rattle.std.proofs.Common.{◌≡◌, ◌≢◌, ℕ, ◌+◌, List, [], ◌∷◌, Bool, true, false, cond, Option, None, Some, refl, sym, ap, ◌∙◌, ◌⊎◌, inl, inr, arith}
 use Rattle.std.specs.Prelude.{◌==◌, ◌||◌, ◌&&◌, not, map, option_and_then}
 use Rattle.std.specs.BTreeMap.{is_at}
 use Rattle.std.specs.List.{list_any, filter, filter_map, cons_option}
 use Rattle.std.specs.Map.{keys_of, lookup, remove_entry}
 use Rattle.std.specs.Option.{option_map}
 use Rattle.std.specs.Ordering.{nat_cmp}
-use Rattle.std.proofs.lemmas.Bool.{eqb-true, eq-eqb}
+use Rattle.std.proofs.lemmas.Bool.{eqb-true}
 use Rattle.std.proofs.lemmas.Map.Entries.{lookup-filter-keys}
 use Rattle.s3_base.specs.declared.node_kind.Kind.{Kind}
 use Rattle.s3_base.specs.declared.node_kind.Kind.TheVariants as kinds
 use Rattle.plain_tree.specs.Attributes.{kind_of}
 use Rattle.plain_tree.specs.Below.{is_among, at_and_below}
 use Rattle.plain_tree.specs.Entries.{is_directory, entry_at, is_named, is_open, lives, drop_entry}
-use Rattle.plain_tree.specs.Files.{inode_of}
 use Rattle.plain_tree.specs.Subtrees.{with_lock, left_over, without_directories, without_tree, without_pass}
-use Rattle.plain_tree.specs.Tree.{Content, Regular, Directory, Link, Node, Handle, Tree, root, node_at, entry_of, handle_of, own_handle, without_handle, stamped}
+use Rattle.plain_tree.specs.Tree.{Content, Regular, Directory, Link, Node, Handle, Tree, root, node_at, entry_of, own_handle, without_handle, stamped}
 use Rattle.tree_laws.specs.Names.{NamesInOrder}
 use Rattle.tree_laws.specs.Numbers.{Ascend, InOrder}
 use Rattle.tree_laws.proofs.Ascending.{ascend-left, ascend-filter}
@@ -26,9 +25,9 @@ use Rattle.tree_laws.proofs.Lookups.{left_true, right_true}
 use Rattle.tree_laws.proofs.Named as names_by
 use Rattle.tree_laws.proofs.Nodes.{same_number}
 use Rattle.tree_laws.proofs.Ordered as numbers_by
-use Rattle.tree_laws.proofs.Shape.{Shape, IsUnnamed, Grown, NoneGoes, IsPlace, cases_place, not_there, Same}
+use Rattle.tree_laws.proofs.Shape.{Same}
 use Rattle.tree_laws.proofs.Still.{absent}
-use Rattle.tree_laws.proofs.TreeShape.{kind_in, entry_in, shape_of, drop_shape, is_named_by, names_it, dead_is, alive_is}
+use Rattle.tree_laws.proofs.TreeShape.{kind_in, entry_in, shape_of, drop_shape, is_named_by, dead_is, alive_is}
 
 -- ---- a lock
 

@@ -5,7 +5,7 @@ use Rattle.std.specs.BTreeMap.{is_at, insert_entry}
 use Rattle.std.specs.Cmp.{nat_cmp_is}
 use Rattle.std.specs.Cmp.Lexicographic.{slice_cmp}
 use Rattle.std.specs.List.{list_any}
-use Rattle.std.specs.Map.{keys_of, values_of, lookup, remove_entry}
+use Rattle.std.specs.Map.{keys_of, values_of, lookup}
 use Rattle.std.specs.Option.{option_map}
 use Rattle.std.specs.Ordering.{nat_cmp, match_ordering}
 use Rattle.std.specs.declared.cmp.Ordering.{Ordering}
@@ -16,8 +16,7 @@ use Rattle.s3_base.specs.declared.node_kind.Kind.{Kind}
 use Rattle.s3_base.specs.declared.node_kind.Kind.TheVariants as kinds
 use Rattle.plain_tree.specs.Attributes.{kind_of}
 use Rattle.plain_tree.specs.Entries.{entries_of, entry_at, is_named, is_open, lives, settled, add_entry, drop_entry, unnamed}
-use Rattle.plain_tree.specs.Operations.{HandlesBelow}
-use Rattle.plain_tree.specs.Tree.{Content, Regular, Directory, Link, Node, Handle, Tree, root, node_at, entry_of, change_node, changed_by, without_node, with_node, with_handle, without_handle, named, touched, stamped}
+use Rattle.plain_tree.specs.Tree.{Content, Regular, Directory, Link, Node, Handle, Tree, root, node_at, entry_of, change_node, changed_by, without_node, with_node, named, touched}
 use Rattle.tree_laws.specs.Names.{Rise, NamesRise, NamesInOrder}
 use Rattle.tree_laws.specs.Numbers.{Ascend, InOrder}
 use Rattle.tree_laws.proofs.Losing.{Unlinks, Removes, none_some, removed, spared}
@@ -199,7 +198,7 @@ remove_shape x t ordered =
 
 -- ---- what is named
 
-entry_from : (y : ℕ) (name : List ℕ) (content : Content) → lookup (is_at (slice_cmp nat_cmp name)) (entries_of content) ≡ Some y → entry_of content name ≡ Some y
+pub entry_from : (y : ℕ) (name : List ℕ) (content : Content) → lookup (is_at (slice_cmp nat_cmp name)) (entries_of content) ≡ Some y → entry_of content name ≡ Some y
 entry_from y name (Directory entries) is = is
 entry_from y name (Regular bytes) is = absurd (cc is)
 entry_from y name (Link target) is = absurd (cc is)
@@ -218,7 +217,7 @@ either_true : (a b : Bool) → (a || b) ≡ true → (a ≡ true) ⊎ (b ≡ tru
 either_true true b is = inl refl
 either_true false b is = inr is
 
-named_at : (y low : ℕ) (es : List (ℕ × Node)) (next : ℕ) → Ascend low (keys_of es) next → NamesRise (values_of es)
+pub named_at : (y low : ℕ) (es : List (ℕ × Node)) (next : ℕ) → Ascend low (keys_of es) next → NamesRise (values_of es)
     → list_any (λ e. list_any (λ entry. entry.1 == y) (entries_of e.1.content)) es ≡ true → (p : ℕ) × (n : List ℕ) × (entry_in n (lookup (is_at (nat_cmp p)) es) ≡ Some y)
 named_at y low [] next ascend rise is = absurd (cc is)
 named_at y low (e ∷ es) next ascend rise is =
@@ -278,12 +277,15 @@ root_test y same = eq-eqb y root same
 
 pub dead_is : (t : Tree) (y : ℕ) → lives t y ≡ false → IsUnnamed (shape_of t) y × (is_open t y ≡ true → ⊥) × (y ≢ root)
 dead_is t y is =
-    let parts = dead_parts y (y == root) (is_named t y) (is_open t y) is in
-    (unnamed_by t y parts.1, λ opened.
-    let both_ways : true ≡ false = sym opened ∙ parts.2 in
-    cc both_ways, λ same.
-    let both_ways : true ≡ false = sym (root_test y same) ∙ parts.0 in
-    cc both_ways)
+    let parts = dead_parts y (y == root) (is_named t y) (is_open t y) is in (
+      unnamed_by t y parts.1,
+      λ opened.
+          let both_ways : true ≡ false = sym opened ∙ parts.2 in
+          cc both_ways,
+      λ same.
+          let both_ways : true ≡ false = sym (root_test y same) ∙ parts.0 in
+          cc both_ways,
+    )
 
 pub alive_is : (t : Tree) → InOrder t → NamesInOrder t → (y : ℕ) → lives t y ≡ true → IsUnnamed (shape_of t) y → y ≢ root → is_open t y ≡ true
 alive_is t ordered names y is unnamed inner =

@@ -1,5 +1,5 @@
 -- A walk finds all that lies below, and nothing else.
-use Rattle.std.proofs.Common.{◌≡◌, ◌≢◌, ◌≤◌, ◌<◌, ℕ, zero, suc, ◌+◌, List, [], ◌∷◌, ◌++◌, Bool, true, false, cond, Option, None, Some, refl, sym, ap, ◌∙◌, ◌⊎◌, inl, inr, arith}
+use Rattle.std.proofs.Common.{◌≡◌, ◌≤◌, ◌<◌, ℕ, zero, suc, ◌+◌, List, [], ◌∷◌, ◌++◌, Bool, true, false, cond, Option, None, Some, refl, sym, ap, ◌∙◌, ◌⊎◌, inl, inr, arith}
 use Rattle.std.specs.Prelude.{◌==◌, ◌||◌, length, map, fold}
 use Rattle.std.specs.BTreeMap.{is_at}
 use Rattle.std.specs.List.{list_any}
@@ -8,7 +8,7 @@ use Rattle.std.specs.Ordering.{nat_cmp}
 use Rattle.std.proofs.lemmas.Bool.{eqb-true, eq-eqb}
 use Rattle.std.proofs.lemmas.List.Folds.{list_any-append}
 use Rattle.plain_tree.specs.Below.{is_among, children, walk, at_and_below}
-use Rattle.plain_tree.specs.Entries.{entries_of, entry_at}
+use Rattle.plain_tree.specs.Entries.{entries_of}
 use Rattle.plain_tree.specs.Tree.{Node, Tree, node_at}
 use Rattle.tree_laws.specs.Names.{Rise, NamesInOrder}
 use Rattle.tree_laws.proofs.Gaining.{IsBelow}
