@@ -1,6 +1,6 @@
 -- The shape of a tree with a copy of a subtree.
 use Rattle.std.proofs.Common.{◌≡◌, ◌≢◌, ◌≤◌, ℕ, zero, suc, ◌+◌, List, [], ◌∷◌, ◌++◌, Bool, true, false, cond, Option, None, Some, refl, sym, ap, ◌∙◌, ◌⊎◌, inl, inr, arith}
-use Rattle.std.specs.Prelude.{◌==◌, ◌||◌, length, fold}
+use Rattle.std.specs.Prelude.{◌==◌, length, fold}
 use Rattle.std.specs.BTreeMap.{is_at}
 use Rattle.std.specs.Cmp.Lexicographic.{slice_cmp}
 use Rattle.std.specs.Map.{lookup}
@@ -17,9 +17,9 @@ use Rattle.plain_tree.specs.Entries.{entry_at}
 use Rattle.plain_tree.specs.Subtrees.{place_of, copy_number, copied_content, copied_node, copies, with_copy}
 use Rattle.plain_tree.specs.Tree.{Content, Regular, Directory, Link, Node, Tree, node_at, entry_of}
 use Rattle.tree_laws.specs.Numbers.{InOrder}
+use Rattle.tree_laws.proofs.Bools.{left_true, right_true, either_true, differ}
 use Rattle.tree_laws.proofs.Branches.{Copies}
 use Rattle.tree_laws.proofs.Losing.{none_some}
-use Rattle.tree_laws.proofs.Lookups.{left_true, right_true}
 use Rattle.tree_laws.proofs.Nodes.{same_number, other_number, own_number}
 use Rattle.tree_laws.proofs.Shape.{IsPlace, cases_place, one_entry, not_there}
 use Rattle.tree_laws.proofs.Still.{present}
@@ -53,15 +53,6 @@ place_if true true m n is = inl (refl, refl)
 place_if true false m n is = absurd (omega (arith, is))
 place_if false true m n is = absurd (omega (arith, is))
 place_if false false m n is = inr (refl, refl, omega (arith, is))
-
-either_true : (a b : Bool) → (a || b) ≡ true → (a ≡ true) ⊎ (b ≡ true)
-either_true true b is = inl refl
-either_true false b is = inr is
-
-differ : (a : Bool) → a ≡ true → a ≡ false → ⊥
-differ a first second =
-    let both_ways : true ≡ false = sym first ∙ second in
-    cc both_ways
 
 one_place : (order : List ℕ) (y z : ℕ) → is_among order y ≡ true → place_of y order ≡ place_of z order → y ≡ z
 one_place [] y z among same = absurd (cc among)

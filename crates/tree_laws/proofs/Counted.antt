@@ -1,6 +1,6 @@
 -- How many entries name an inode that one place names.
 use Rattle.std.proofs.Common.{◌≡◌, ◌≢◌, ℕ, ◌+◌, List, [], ◌∷◌, Bool, true, false, cond, Some, refl, sym, ap, ◌∙◌, arith}
-use Rattle.std.specs.Prelude.{◌==◌, ◌||◌, sum_by, count_by}
+use Rattle.std.specs.Prelude.{◌==◌, sum_by, count_by}
 use Rattle.std.specs.BTreeMap.{is_at}
 use Rattle.std.specs.Cmp.Lexicographic.{slice_cmp}
 use Rattle.std.specs.List.{list_any}
@@ -13,6 +13,7 @@ use Rattle.plain_tree.specs.Entries.{entries_of}
 use Rattle.plain_tree.specs.Tree.{Content, Regular, Directory, Link, Node, entry_of}
 use Rattle.tree_laws.specs.Names.{RiseFrom, Rise, NamesRise}
 use Rattle.tree_laws.specs.Numbers.{Ascend}
+use Rattle.tree_laws.proofs.Bools.{both_false, is_false}
 use Rattle.tree_laws.proofs.Losing.{none_some}
 use Rattle.tree_laws.proofs.Lookups.{past_first, named_from, not_below, above}
 use Rattle.tree_laws.proofs.Nodes.{same_number, other_number, own_number}
@@ -22,14 +23,10 @@ use Rattle.tree_laws.proofs.TreeShape.{entry_in, entry_named, named_at}
 
 -- ---- counts where a test fails
 
-neither : (a b : Bool) → (a || b) ≡ false → (a ≡ false) × (b ≡ false)
-neither true b is = absurd (cc is)
-neither false b is = (refl, is)
-
 count_none : (x : ℕ) (es : List (List ℕ × ℕ)) → list_any (λ e. e.1 == x) es ≡ false → count_by (λ e. e.1 == x) es ≡ 0
 count_none x [] none = refl
 count_none x (e ∷ es) none =
-    let parts = neither (e.1 == x) (list_any (λ e. e.1 == x) es) none in
+    let parts = both_false (e.1 == x) (list_any (λ e. e.1 == x) es) none in
     sum_by-cons (λ (e : List ℕ × ℕ). cond (e.1 == x) 1 0) e es ∙ ap (λ b. cond b 1 0 + count_by (λ (e : List ℕ × ℕ). e.1 == x) es) parts.0 ∙ ap (λ k. 0 + k) (count_none x es parts.1)
 
 names_none : (x : ℕ) (content : Content) → list_any (λ e. e.1 == x) (entries_of content) ≡ false → names_in x content ≡ 0
@@ -40,16 +37,12 @@ names_none x (Link target) none = refl
 sum_none : (x : ℕ) (es : List (ℕ × Node)) → list_any (λ e. list_any (λ entry. entry.1 == x) (entries_of e.1.content)) es ≡ false → sum_by (λ e. names_in x e.1.content) es ≡ 0
 sum_none x [] none = refl
 sum_none x (e ∷ es) none =
-    let parts = neither (list_any (λ entry. entry.1 == x) (entries_of e.1.content)) (list_any (λ e. list_any (λ entry. entry.1 == x) (entries_of e.1.content)) es) none in
+    let parts = both_false (list_any (λ entry. entry.1 == x) (entries_of e.1.content)) (list_any (λ e. list_any (λ entry. entry.1 == x) (entries_of e.1.content)) es) none in
     let head : names_in x e.1.content ≡ 0 = names_none x e.1.content parts.0 in
     let rest : sum_by (λ (e : ℕ × Node). names_in x e.1.content) es ≡ 0 = sum_none x es parts.1 in
     sum_by-cons (λ (e : ℕ × Node). names_in x e.1.content) e es ∙ omega (arith, head, rest)
 
 -- ---- one entry
-
-is_false : (test : Bool) → (test ≡ true → ⊥) → test ≡ false
-is_false true never = absurd (never refl)
-is_false false never = refl
 
 abbrev OnlyName : ℕ → List ℕ → List (List ℕ × ℕ) → Type 0
 OnlyName x n es = (m : List ℕ) → lookup (is_at (slice_cmp nat_cmp m)) es ≡ Some x → m ≡ n

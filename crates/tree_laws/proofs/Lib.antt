@@ -1,5 +1,6 @@
 pub mod Alone
 pub mod Ascending
+pub mod Bools
 pub mod Branches
 pub mod Bytes
 pub mod Checked

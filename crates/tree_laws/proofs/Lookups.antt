@@ -1,5 +1,5 @@
 -- What a look-up finds among entries that were inserted, removed or filtered.
-use Rattle.std.proofs.Common.{◌≡◌, ◌≢◌, ℕ, ◌+◌, List, [], ◌∷◌, Bool, true, false, cond, Option, None, Some, refl, sym, ap, ◌∙◌, ◌⊎◌, inl, inr, arith}
+use Rattle.std.proofs.Common.{◌≡◌, ◌≢◌, ℕ, ◌+◌, List, [], ◌∷◌, Bool, true, false, cond, Option, None, Some, refl, sym, ap, ◌∙◌, inl, inr, arith}
 use Rattle.std.specs.Prelude.{◌==◌, ◌||◌}
 use Rattle.std.specs.BTreeMap.{is_at, insert_entry}
 use Rattle.std.specs.Cmp.Lexicographic.{slice_cmp}
@@ -13,6 +13,7 @@ use Rattle.std.proofs.lemmas.Cmp.{nat_list_cmp_total, tied_itself}
 use Rattle.tree_laws.specs.Names.{RiseFrom, Rise}
 use Rattle.tree_laws.specs.Numbers.{Ascend}
 use Rattle.plain_tree.specs.Tree.{Node}
+use Rattle.tree_laws.proofs.Bools.{left_true, right_true, either_true}
 use Rattle.tree_laws.proofs.Nodes.{same_number, other_number, own_number}
 use Rattle.tree_laws.proofs.Spelling.{same_name, own_name, other_name}
 use Rattle.tree_laws.proofs.Still.{absent}
@@ -122,18 +123,6 @@ name_removed name (e ∷ es) rise =
     name_gone name (is_at (slice_cmp nat_cmp name) e.0) e es (remove_entry (is_at (slice_cmp nat_cmp name)) es) refl rise (removed_from name e.0 es rise)
 
 -- ---- an inode that some entry names
-
-either_true : (a b : Bool) → (a || b) ≡ true → (a ≡ true) ⊎ (b ≡ true)
-either_true true b is = inl refl
-either_true false b is = inr is
-
-pub right_true : (a b : Bool) → b ≡ true → (a || b) ≡ true
-right_true true b is = refl
-right_true false b is = is
-
-pub left_true : (a b : Bool) → a ≡ true → (a || b) ≡ true
-left_true true b is = refl
-left_true false b is = absurd (cc is)
 
 -- a later name is found past the first
 pub past_first : (name : List ℕ) (e : List ℕ × ℕ) (es : List (List ℕ × ℕ)) (y : ℕ) → RiseFrom e.0 (keys_of es) → lookup (is_at (slice_cmp nat_cmp name)) es ≡ Some y

@@ -13,6 +13,7 @@ use Rattle.plain_tree.specs.Subtrees.{is_same, dropped, moved_entry}
 use Rattle.plain_tree.specs.Tree.{Content, Regular, Directory, Link, Node, Tree, node_at, change_node, stamped}
 use Rattle.tree_laws.specs.Names.{NamesInOrder}
 use Rattle.tree_laws.specs.Numbers.{InOrder}
+use Rattle.tree_laws.proofs.Bools.{left_false}
 use Rattle.tree_laws.proofs.Gaining.{IsBelow, Moves, moved}
 use Rattle.tree_laws.proofs.Losing.{Unlinks, none_some, unlinked}
 use Rattle.tree_laws.proofs.Named as names_by
@@ -39,11 +40,6 @@ is_a_folder None is = absurd (cc is)
 is_a_folder (Some node) is =
     let same : kind_of node.content ≡ kinds.Directory = cc is in
     folder_content node.content same
-
-left_false : (a b : Bool) → (a && b) ≡ false → b ≡ true → a ≡ false
-left_false true true is also = absurd (cc is)
-left_false true false is also = absurd (cc also)
-left_false false b is also = refl
 
 alone : (t : Tree) (x np : ℕ) → Sound t → (kind_in (node_at t x) ≡ Some kinds.Directory → ⊥) → kind_in (node_at t np) ≡ Some kinds.Directory → Branch t x np
 alone t x np sound file folder = record {

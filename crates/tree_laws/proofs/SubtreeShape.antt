@@ -1,5 +1,5 @@
 -- The shape of a tree in which a subtree is locked or removed, a handle is closed, or a pass leaves.
-use Rattle.std.proofs.Common.{◌≡◌, ◌≢◌, ℕ, ◌+◌, List, [], ◌∷◌, Bool, true, false, cond, Option, None, Some, refl, sym, ap, ◌∙◌, ◌⊎◌, inl, inr, arith}
+use Rattle.std.proofs.Common.{◌≡◌, ◌≢◌, ℕ, ◌+◌, List, [], ◌∷◌, Bool, true, false, cond, Option, None, Some, refl, sym, ap, ◌∙◌, inl, inr, arith}
 use Rattle.std.specs.Prelude.{◌==◌, ◌||◌, ◌&&◌, not, map, option_and_then}
 use Rattle.std.specs.BTreeMap.{is_at}
 use Rattle.std.specs.List.{list_any, filter, filter_map, cons_option}
@@ -18,10 +18,10 @@ use Rattle.plain_tree.specs.Tree.{Content, Regular, Directory, Link, Node, Handl
 use Rattle.tree_laws.specs.Names.{NamesInOrder}
 use Rattle.tree_laws.specs.Numbers.{Ascend, InOrder}
 use Rattle.tree_laws.proofs.Ascending.{ascend-left, ascend-filter}
+use Rattle.tree_laws.proofs.Bools.{left_true, right_true, either_true, left_false, differ, is_false}
 use Rattle.tree_laws.proofs.Branches.{Uproots}
 use Rattle.tree_laws.proofs.CopyShape.{kind_some, entry_some}
 use Rattle.tree_laws.proofs.Losing.{Unlinks, Closes, Sweeps, none_some}
-use Rattle.tree_laws.proofs.Lookups.{left_true, right_true}
 use Rattle.tree_laws.proofs.Named as names_by
 use Rattle.tree_laws.proofs.Nodes.{same_number}
 use Rattle.tree_laws.proofs.Ordered as numbers_by
@@ -57,10 +57,6 @@ lock_shape x t = record {
 }
 
 -- ---- a handle that is closed
-
-either_true : (a b : Bool) → (a || b) ≡ true → (a ≡ true) ⊎ (b ≡ true)
-either_true true b is = inl refl
-either_true false b is = inr is
 
 closed_if : (x : ℕ) (e : ℕ × Handle) (es rest : List (ℕ × Handle)) (test : Bool) → (list_any (λ h. h.1.inode == x) rest ≡ true → list_any (λ h. h.1.inode == x) es ≡ true)
     → list_any (λ h. h.1.inode == x) (cond test es (e ∷ rest)) ≡ true → list_any (λ h. h.1.inode == x) (e ∷ es) ≡ true
@@ -244,10 +240,6 @@ open_part true b c is = refl
 open_part false true c is = refl
 open_part false false c is = is
 
-is_out : (below : List ℕ) (q : ℕ) (test : Bool) → is_among below q ≡ test → (is_among below q ≡ true → ⊥) → is_among below q ≡ false
-is_out below q true test never = absurd (never test)
-is_out below q false test never = test
-
 gone_if : {X : Type 0} (below : List ℕ) (q : ℕ) (test : Bool) → is_among below q ≡ test → (is_among below q ≡ true → X) → (is_among below q ≡ false → X) → X
 gone_if below q true test within out = within test
 gone_if below q false test within out = out test
@@ -274,16 +266,6 @@ holds_entries : (content : Content) (m : List ℕ) (y : ℕ) → entry_of conten
 holds_entries (Directory entries) m y is = refl
 holds_entries (Regular bytes) m y is = absurd (cc is)
 holds_entries (Link target) m y is = absurd (cc is)
-
-both_parts : (a b : Bool) → (a && b) ≡ false → b ≡ true → a ≡ false
-both_parts true true is also = absurd (cc is)
-both_parts true false is also = absurd (cc also)
-both_parts false b is also = refl
-
-differ : (a : Bool) → a ≡ true → a ≡ false → ⊥
-differ a first second =
-    let both_ways : true ≡ false = sym first ∙ second in
-    cc both_ways
 
 some_entry : (m : List ℕ) (found : Option Node) (result : Option ℕ) → entry_in m found ≡ result → ((y : ℕ) → entry_in m found ≡ Some y → ⊥) → result ≡ None
 some_entry m found None is never = refl
@@ -350,7 +332,7 @@ uproot_shape p n now x t ordered names rooted =
           let alive : lives without y ≡ true = elim kept [
             | inl from ↦
                 let new = entry_some from.1 y (node_at after from.0) from.2 in
-                let out : is_among below from.0 ≡ false = is_out below from.0 (is_among below from.0) refl (λ within. none_some (entry_at after from.0 from.1) y (none from.0 from.1 within) from.2) in
+                let out : is_among below from.0 ≡ false = is_false (is_among below from.0) (λ within. none_some (entry_at after from.0 from.1) y (none from.0 from.1 within) from.2) in
                 lives_named without y
                 (is_named_by without y from.0 from.1 (ap (entry_in from.1) (kept_there below from.0 unlinked.nodes out ∙ sym (outside from.0 out)) ∙ from.2))
             | inr opened ↦ lives_open without y opened
@@ -370,7 +352,7 @@ uproot_shape p n now x t ordered names rooted =
           y old.2
           (λ q m names_y.
           let holder = entry_some m y (node_at without q) names_y in
-          let out : is_among below q ≡ false = both_parts (is_among below q) (is_directory holder.0.content) (kept_only below q unlinked.nodes holder.0 holder.1) (holds_entries holder.0.content m y holder.2) in
+          let out : is_among below q ≡ false = left_false (is_among below q) (is_directory holder.0.content) (kept_only below q unlinked.nodes holder.0 holder.1) (holds_entries holder.0.content m y holder.2) in
           unnamed q m (ap (entry_in m) (outside q out ∙ sym (kept_there below q unlinked.nodes out)) ∙ names_y)) inner;
       none = none;
       gone = gone_if below p (is_among below p) refl (λ among. none p n among) (λ out. ap (entry_in n) (outside p out) ∙ unlinks.gone);

@@ -19,8 +19,9 @@ use Rattle.plain_tree.specs.Entries.{entries_of, entry_at, is_named, is_open, li
 use Rattle.plain_tree.specs.Tree.{Content, Regular, Directory, Link, Node, Handle, Tree, root, node_at, entry_of, change_node, changed_by, without_node, with_node, named, touched}
 use Rattle.tree_laws.specs.Names.{Rise, NamesRise, NamesInOrder}
 use Rattle.tree_laws.specs.Numbers.{Ascend, InOrder}
+use Rattle.tree_laws.proofs.Bools.{left_true, right_true, either_true}
 use Rattle.tree_laws.proofs.Losing.{Unlinks, Removes, none_some, removed, spared}
-use Rattle.tree_laws.proofs.Lookups.{numbers_tell, names_tell, inserted_here, inserted_there, removed_there, number_removed, name_removed, named_in, any_named, right_true, left_true}
+use Rattle.tree_laws.proofs.Lookups.{numbers_tell, names_tell, inserted_here, inserted_there, removed_there, number_removed, name_removed, named_in, any_named}
 use Rattle.tree_laws.proofs.Named as names_by
 use Rattle.tree_laws.proofs.Nodes.{found_itself, changes_one, own_number, other_number}
 use Rattle.tree_laws.proofs.Shape.{Shape, IsUnnamed, Grown, NoneGoes, Only, IsPlace, Same}
@@ -212,10 +213,6 @@ pub entry_named : (y : ℕ) (content : Content) → Rise (keys_of (entries_of co
 entry_named y content rise is =
     let found = named_in y (entries_of content) rise is in
     (found.0, entry_from y found.0 content found.1)
-
-either_true : (a b : Bool) → (a || b) ≡ true → (a ≡ true) ⊎ (b ≡ true)
-either_true true b is = inl refl
-either_true false b is = inr is
 
 pub named_at : (y low : ℕ) (es : List (ℕ × Node)) (next : ℕ) → Ascend low (keys_of es) next → NamesRise (values_of es)
     → list_any (λ e. list_any (λ entry. entry.1 == y) (entries_of e.1.content)) es ≡ true → (p : ℕ) × (n : List ℕ) × (entry_in n (lookup (is_at (nat_cmp p)) es) ≡ Some y)

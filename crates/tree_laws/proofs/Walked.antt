@@ -11,14 +11,11 @@ use Rattle.plain_tree.specs.Below.{is_among, children, walk, at_and_below}
 use Rattle.plain_tree.specs.Entries.{entries_of}
 use Rattle.plain_tree.specs.Tree.{Node, Tree, node_at}
 use Rattle.tree_laws.specs.Names.{Rise, NamesInOrder}
+use Rattle.tree_laws.proofs.Bools.{left_true, right_true, either_true}
 use Rattle.tree_laws.proofs.Gaining.{IsBelow}
-use Rattle.tree_laws.proofs.Lookups.{any_named, left_true, right_true}
+use Rattle.tree_laws.proofs.Lookups.{any_named}
 use Rattle.tree_laws.proofs.Nodes.{same_number}
 use Rattle.tree_laws.proofs.TreeShape.{shape_of, entry_in, rise_at, entry_to, entry_named}
-
-either_true : (a b : Bool) → (a || b) ≡ true → (a ≡ true) ⊎ (b ≡ true)
-either_true true b is = inl refl
-either_true false b is = inr is
 
 -- ---- lists of inodes
 
