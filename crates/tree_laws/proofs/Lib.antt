@@ -6,6 +6,7 @@ pub mod Bytes
 pub mod Checked
 pub mod CopyShape
 pub mod Counted
+pub mod EachCall
 pub mod EachNode
 pub mod Gaining
 pub mod Lasting
@@ -18,6 +19,7 @@ pub mod Named
 pub mod Nodes
 pub mod Ordered
 pub mod Passing
+pub mod Preserved
 pub mod Renaming
 pub mod Rising
 pub mod Shape
