@@ -1,5 +1,5 @@
 -- A fact of every node, through all operations: what the operations have in common, and what each has to add.
-use Rattle.std.proofs.Common.{◌≡◌, ℕ, ◌+◌, List, [], ◌∷◌, ◌++◌, Bool, true, false, cond, Option, None, Some, refl, sym, subst}
+use Rattle.std.proofs.Common.{◌≡◌, ℕ, ◌+◌, List, [], ◌∷◌, ◌++◌, Bool, true, false, cond, Option, None, Some, refl, subst}
 use Rattle.std.specs.Prelude.{◌==◌, not, ◌&&◌, length, map}
 use Rattle.std.specs.BTreeMap.{is_at, insert_entry}
 use Rattle.std.specs.List.{filter, filter_map, cons_option}
@@ -19,7 +19,7 @@ use Rattle.plain_tree.specs.Files.{inode_of, with_bytes, written_at, resized}
 use Rattle.plain_tree.specs.Operations.{checks, effect, tree_after, new_file, new_directory, new_link, with_new_file, with_new_node}
 use Rattle.plain_tree.specs.Pages.{with_attribute, without_attribute}
 use Rattle.plain_tree.specs.Subtrees.{is_same, dropped, moved_entry, copied_node, copy_number, copies, with_copy, left_over, without_directories, without_tree}
-use Rattle.plain_tree.proofs.Replies.{tree_at}
+use Rattle.tree_laws.proofs.EachCall.{after_call, after_calls}
 
 -- the fact holds of every node
 abbrev pub Each : (Node → Type 0) → List (ℕ × Node) → Type 0
@@ -83,7 +83,7 @@ each-remove : (good : Node → Type 0) (test : ℕ → Bool) (es : List (ℕ × 
 each-remove good test [] each = each
 each-remove good test (e ∷ es) each = each-cond good (test e.0) es (e ∷ remove_entry test es) each.1 (each.0, each-remove good test es each.1)
 
-each-filter : (good : Node → Type 0) (test : ℕ × Node → Bool) (es : List (ℕ × Node)) → Each good es → Each good (filter test es)
+pub each-filter : (good : Node → Type 0) (test : ℕ × Node → Bool) (es : List (ℕ × Node)) → Each good es → Each good (filter test es)
 each-filter good test [] each = each
 each-filter good test (e ∷ es) each = each-cond good (test e) (e ∷ filter test es) (filter test es) (each.0, each-filter good test es each.1) (each-filter good test es each.1)
 
@@ -146,7 +146,7 @@ changed : (good : Node → Type 0) (f : Node → Node) → Changes good f → (x
 changed good f keeps None inode t sound each = each
 changed good f keeps (Some node) inode t sound each = each-set good (is_at (nat_cmp inode)) t.nodes (f node) each (keeps node (sound node refl))
 
-change : (good : Node → Type 0) (f : Node → Node) → Changes good f → (inode : ℕ) (t : Tree) → Each good t.nodes → Each good (change_node inode f t).nodes
+pub change : (good : Node → Type 0) (f : Node → Node) → Changes good f → (inode : ℕ) (t : Tree) → Each good t.nodes → Each good (change_node inode f t).nodes
 change good f keeps inode t each = changed good f keeps (node_at t inode) inode t (λ node is. each-found good (is_at (nat_cmp inode)) t.nodes node each is) each
 
 add : (good : Node → Type 0) (parent : ℕ) (name : List ℕ) (inode now : ℕ) (t : Tree) → Names good now name → Each good t.nodes → Each good (add_entry parent name inode now t).nodes
@@ -246,16 +246,14 @@ each_by good keeps t pass now (ops.CacheSize entries) own each = each
 each_by good keeps t pass now ops.Leave own each = each-filter good (λ (e : ℕ × Node). lives (record t { handles = filter (λ h. not (h.1.pass == pass)) t.handles }) e.0) t.nodes each
 each_by good keeps t pass now ops.Unmount own each = each
 
-each_if : (good : Node → Type 0) → Keeps good → (t : Tree) (pass now : ℕ) (op : Op) (failure : Option ℕ) → first_failure (checks t pass op) ≡ failure
-    → (first_failure (checks t pass op) ≡ None → Own good now op) → Each good t.nodes → Each good (tree_after t pass op now).nodes
-each_if good keeps t pass now op (Some errno) is own each = subst (λ (after : Tree). Each good after.nodes) (sym (tree_at t pass now op (Some errno) is)) each
-each_if good keeps t pass now op None is own each =
-    subst (λ (after : Tree). Each good after.nodes) (sym (tree_at t pass now op None is)) (each_by good keeps t pass now op (own is) each)
+-- one call keeps it
+pub each_after : (good : Node → Type 0) → Keeps good → (t : Tree) (pass now : ℕ) (op : Op) → (first_failure (checks t pass op) ≡ None → Own good now op) → Each good t.nodes
+    → Each good (tree_after t pass op now).nodes
+each_after good keeps t pass now op own each =
+    after_call (λ (after : Tree). Each good after.nodes) t pass now op each (λ passes. each_by good keeps t pass now op (own passes) each)
 
 -- so where it holds of every node, it does after any calls
-pub each_after : (good : Node → Type 0) → Keeps good → ((t : Tree) (pass now : ℕ) (op : Op) → first_failure (checks t pass op) ≡ None → Own good now op)
-    → (t : Tree) (calls : List Request) → Each good t.nodes → Each good (tree_after_all t calls).nodes
-each_after good keeps own t [] each = each
-each_after good keeps own t (call ∷ calls) each =
-    each_after good keeps own (tree_after t call.pass call.op call.now) calls
-    (each_if good keeps t call.pass call.now call.op _ refl (own t call.pass call.now call.op) each)
+pub each_lasts : (good : Node → Type 0) → Keeps good → ((t : Tree) (pass now : ℕ) (op : Op) → first_failure (checks t pass op) ≡ None → Own good now op) → (t : Tree) (calls : List Request)
+    → Each good t.nodes → Each good (tree_after_all t calls).nodes
+each_lasts good keeps own t calls each =
+    after_calls (λ (after : Tree). Each good after.nodes) (λ t pass now op passes each. each_by good keeps t pass now op (own t pass now op passes) each) t calls each

@@ -17,7 +17,7 @@ use Rattle.plain_tree.specs.Entries.{entries_of, entry_at, unnamed}
 use Rattle.plain_tree.specs.Files.{with_bytes, written_at, resized}
 use Rattle.plain_tree.specs.Operations.{checks}
 use Rattle.plain_tree.specs.Subtrees.{copied_content, copy_number}
-use Rattle.tree_laws.proofs.EachNode.{Each, Keeps, Own, each-found, each_after}
+use Rattle.tree_laws.proofs.EachNode.{Each, Keeps, Own, each-found, each_lasts}
 use Rattle.tree_laws.proofs.Spelling.{same_name}
 use Rattle.tree_laws.proofs.Passing.{all_pass}
 
@@ -136,5 +136,5 @@ pub reached_legal : (block_size time : ℕ) (calls : List Request) (parent inode
     → entry_at (tree_after_all (made_tree block_size time) calls) parent name ≡ Some inode → name_check name ≡ None
 reached_legal block_size time calls parent inode name is =
     let t : Tree = tree_after_all (made_tree block_size time) calls in
-    let all : Each HasLegalNames t.nodes = each_after HasLegalNames keeps_names names_own (made_tree block_size time) calls ((refl, _), (_, _)) in
+    let all : Each HasLegalNames t.nodes = each_lasts HasLegalNames keeps_names names_own (made_tree block_size time) calls ((refl, _), (_, _)) in
     named_legally (node_at t parent) inode name (λ node found. each-found HasLegalNames (is_at (nat_cmp parent)) t.nodes node all found) is

@@ -1,5 +1,5 @@
 -- Lengths, targets and attributes stay within their rules, and so do the numbers that come next.
-use Rattle.std.proofs.Common.{◌≡◌, ◌≤◌, ℕ, ◌+◌, ◌^◌, List, [], ◌∷◌, ◌++◌, Bool, true, false, cond, Option, None, Some, refl, sym, ◌∙◌, subst, arith}
+use Rattle.std.proofs.Common.{◌≡◌, ◌≤◌, ℕ, ◌+◌, ◌^◌, List, [], ◌∷◌, ◌++◌, Bool, true, false, cond, Option, None, Some, refl, ◌∙◌, subst, arith}
 use Rattle.std.specs.Prelude.{◌==◌, ◌-◌, length, take, drop, nat_lt}
 use Rattle.std.specs.BTreeMap.{is_at, insert_entry}
 use Rattle.std.specs.Cmp.Lexicographic.{slice_cmp}
@@ -19,12 +19,12 @@ use Rattle.plain_tree.specs.Calls.{tree_after_all}
 use Rattle.plain_tree.specs.Checks.{first_failure, fails_with, size_check, write_end_check, attribute_name_check, value_check, ids_check, hand_check}
 use Rattle.plain_tree.specs.Entries.{entry_at, lives, settled, add_entry, drop_entry, unnamed}
 use Rattle.plain_tree.specs.Files.{inode_of, padded, with_bytes, written_at, resized}
-use Rattle.plain_tree.specs.Operations.{checks, effect, tree_after, new_file, new_directory, new_link}
+use Rattle.plain_tree.specs.Operations.{checks, effect, new_file, new_directory, new_link}
 use Rattle.plain_tree.specs.Subtrees.{is_same, dropped, moved_entry, copied_content, copies, without_tree}
 use Rattle.plain_tree.specs.WellFormed.{IsWithinLimits, AreAttributes, AreWithinLimits, IsWithinRules}
-use Rattle.plain_tree.proofs.Replies.{tree_at}
 use Rattle.tree_laws.proofs.Bytes.{length-resized, le-padded}
-use Rattle.tree_laws.proofs.EachNode.{Each, Keeps, Own, each_after}
+use Rattle.tree_laws.proofs.EachCall.{after_calls}
+use Rattle.tree_laws.proofs.EachNode.{Each, Keeps, Own, each_lasts}
 use Rattle.tree_laws.proofs.Passing.{all_pass, not_failed}
 
 abbrev Limited : Node → Type 0
@@ -134,7 +134,7 @@ spread [] each = _
 spread (e ∷ es) each = (each.0.0, each.0.1, spread es each.1)
 
 nodes_limited : (block_size time : ℕ) (calls : List Request) → AreWithinLimits (tree_after_all (made_tree block_size time) calls).nodes
-nodes_limited block_size time calls = spread _ (each_after Limited keeps_limits limits_own (made_tree block_size time) calls ((_, _), ((_, _), _)))
+nodes_limited block_size time calls = spread _ (each_lasts Limited keeps_limits limits_own (made_tree block_size time) calls ((_, _), ((_, _), _)))
 
 -- ---- the numbers that come next
 
@@ -247,15 +247,7 @@ bounded_by t pass now (ops.RemoveTree parent name) passes bounded = bound t _ (n
 bounded_by t pass now ops.Leave passes bounded = record { inode = bounded.inode; handle = bounded.handle }
 bounded_by t pass now op passes bounded = bounded
 
-bounded_if : (t : Tree) (pass now : ℕ) (op : Op) (failure : Option ℕ) → first_failure (checks t pass op) ≡ failure → Bounded t → Bounded (tree_after t pass op now)
-bounded_if t pass now op (Some errno) is bounded = subst Bounded (sym (tree_at t pass now op (Some errno) is)) bounded
-bounded_if t pass now op None is bounded = subst Bounded (sym (tree_at t pass now op None is)) (bounded_by t pass now op is bounded)
-
-bounded_after : (t : Tree) (calls : List Request) → Bounded t → Bounded (tree_after_all t calls)
-bounded_after t [] bounded = bounded
-bounded_after t (call ∷ calls) bounded = bounded_after (tree_after t call.pass call.op call.now) calls (bounded_if t call.pass call.now call.op _ refl bounded)
-
 pub reached_limits : (block_size time : ℕ) (calls : List Request) → IsWithinRules (tree_after_all (made_tree block_size time) calls)
 reached_limits block_size time calls =
-    let bounded : Bounded (tree_after_all (made_tree block_size time) calls) = bounded_after (made_tree block_size time) calls (record { inode = omega arith; handle = omega arith }) in
+    let bounded : Bounded (tree_after_all (made_tree block_size time) calls) = after_calls Bounded (λ t pass now op passes bounded. bounded_by t pass now op passes bounded) (made_tree block_size time) calls (record { inode = omega arith; handle = omega arith }) in
     record { nodes = nodes_limited block_size time calls; next_inode = bounded.inode; next_handle = bounded.handle }

@@ -1,5 +1,5 @@
 -- One tree of names without orphans, after any calls.
-use Rattle.std.proofs.Common.{◌≡◌, ℕ, List, [], ◌∷◌, Option, None, Some, refl, sym, ap, ◌∙◌, subst}
+use Rattle.std.proofs.Common.{◌≡◌, ℕ, List, [], ◌∷◌, None, Some, refl, ap, ◌∙◌}
 use Rattle.std.specs.Prelude.{◌==◌, not, length}
 use Rattle.std.specs.List.{filter}
 use Rattle.op_frames.specs.declared.operation.Op.{Op}
@@ -15,8 +15,8 @@ use Rattle.plain_tree.specs.Subtrees.{with_lock, without_pass}
 use Rattle.plain_tree.specs.Tree.{Tree, node_at, handle_of}
 use Rattle.plain_tree.proofs.Changes.{change_after}
 use Rattle.plain_tree.proofs.Handles.{below-change}
-use Rattle.plain_tree.proofs.Replies.{tree_at}
 use Rattle.tree_laws.proofs.Checked.{is_file}
+use Rattle.tree_laws.proofs.EachCall.{after_call}
 use Rattle.tree_laws.proofs.Losing.{swept}
 use Rattle.tree_laws.proofs.Named as names_by
 use Rattle.tree_laws.proofs.Ordered as numbers_by
@@ -76,18 +76,14 @@ grown_by t pass now ops.Leave passes sound =
     swept (shape_of t) (shape_of (without_pass pass t)) (lives (record t { handles = filter (λ h. not (h.1.pass == pass)) t.handles })) (leave_shape pass t sound.ordered sound.names) sound.grown
 grown_by t pass now op passes sound = sound.grown
 
-grown_if : (t : Tree) (pass now : ℕ) (op : Op) (failure : Option ℕ) → first_failure (checks t pass op) ≡ failure → Sound t → Grown NoneGoes (shape_of (tree_after t pass op now))
-grown_if t pass now op (Some errno) is sound = subst (λ after. Grown NoneGoes (shape_of after)) (sym (tree_at t pass now op (Some errno) is)) sound.grown
-grown_if t pass now op None is sound = subst (λ after. Grown NoneGoes (shape_of after)) (sym (tree_at t pass now op None is)) (grown_by t pass now op is sound)
-
 pub sound_after : (t : Tree) (calls : List Request) → Sound t → Sound (tree_after_all t calls)
 sound_after t [] sound = sound
 sound_after t (call ∷ calls) sound =
     let after : Tree = tree_after t call.pass call.op call.now in
     sound_after after calls
     (record {
-      ordered = numbers_by.ordered_if t call.pass call.now call.op _ refl sound.ordered;
-      names = names_by.named_if t call.pass call.now call.op _ refl sound.names;
+      ordered = numbers_by.ordered_after t call.pass call.now call.op sound.ordered;
+      names = names_by.named_after t call.pass call.now call.op sound.names;
       below = below-change t call.pass after (change_after t call.pass call.now call.op) sound.below;
-      grown = grown_if t call.pass call.now call.op _ refl sound;
+      grown = after_call (λ after. Grown NoneGoes (shape_of after)) t call.pass call.now call.op sound.grown (λ passes. grown_by t call.pass call.now call.op passes sound);
     })

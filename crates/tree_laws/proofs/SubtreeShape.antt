@@ -348,7 +348,7 @@ uproot_shape p n now x t ordered names rooted =
           no_folder old.0.content old.3 (sym folder) in
           alive_is without
           (ascend-filter 0 (λ (e : ℕ × Node). not (is_among below e.0 && is_directory e.1.content)) unlinked.nodes unlinked.next_inode in_order)
-          (names_by.each-filter (λ (e : ℕ × Node). not (is_among below e.0 && is_directory e.1.content)) unlinked.nodes rising)
+          (names_by.filtered (λ (e : ℕ × Node). not (is_among below e.0 && is_directory e.1.content)) unlinked.nodes rising)
           y old.2
           (λ q m names_y.
           let holder = entry_some m y (node_at without q) names_y in
