@@ -25,7 +25,7 @@ back-add n m head rest long = sym (ap (λ k. drop (k + m) (head ++ rest)) long) 
 length-padded : (n : ℕ) (bytes : List ℕ) → length (padded n bytes) ≡ length bytes + (n - length bytes)
 length-padded n bytes = length-append bytes (replicate (n - length bytes) 0) ∙ ap (λ k. length bytes + k) (length-replicate (n - length bytes) 0)
 
-le-padded : (n : ℕ) (bytes : List ℕ) → n ≤ length (padded n bytes)
+pub le-padded : (n : ℕ) (bytes : List ℕ) → n ≤ length (padded n bytes)
 le-padded n bytes = rw (length-padded n bytes) (omega arith)
 
 -- ---- a write

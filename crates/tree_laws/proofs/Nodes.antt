@@ -17,7 +17,7 @@ same_number a b is = eqb-true a b (sym (unsigned_tied a b) ∙ is)
 pub other_number : (a b : ℕ) → a ≢ b → is_at (nat_cmp a) b ≡ false
 other_number a b apart = unsigned_tied a b ∙ ne_eqb a b apart
 
-own_number : (a : ℕ) → is_at (nat_cmp a) a ≡ true
+pub own_number : (a : ℕ) → is_at (nat_cmp a) a ≡ true
 own_number a = unsigned_tied a a ∙ eq-eqb a a refl
 
 one_number : (a x y : ℕ) → is_at (nat_cmp a) x ≡ true → is_at (nat_cmp a) y ≡ eq_by_cmp nat_cmp x y

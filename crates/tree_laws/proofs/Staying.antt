@@ -24,7 +24,7 @@ use Rattle.tree_laws.specs.Numbers.{InOrder}
 use Rattle.tree_laws.proofs.Checked.{first_passes}
 use Rattle.tree_laws.proofs.Locked.{first_of, refused}
 use Rattle.tree_laws.proofs.Nodes.{same_number, found_itself, changes_one}
-use Rattle.tree_laws.proofs.Ordered.{change, ordered_if}
+use Rattle.tree_laws.proofs.Ordered.{change, ordered_after}
 use Rattle.tree_laws.proofs.Still.{Still, still_same, still_equal, still_gone, still_later, still_removed, still_left, absent, present, found_inserted, found_before}
 use Rattle.tree_laws.proofs.Visited.{copies_ascend}
 
@@ -296,7 +296,7 @@ guarded_after : (t : Tree) (pass now inode : ℕ) (op : Op) → Guarded inode t 
 guarded_after t pass now inode op guarded =
     let stays : Stays inode t (tree_after t pass op now) = stays_if t pass now inode op _ refl guarded in
     record {
-      ordered = ordered_if t pass now op _ refl guarded.ordered;
+      ordered = ordered_after t pass now op guarded.ordered;
       fits = omega (arith, guarded.fits, stays.next);
       locked = locked_on (node_at t inode) (node_at (tree_after t pass op now) inode) stays.still guarded.locked;
     }

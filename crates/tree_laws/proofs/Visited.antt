@@ -1,6 +1,6 @@
 -- A walk visits each node once, and so copies are numbered one after the other.
 use Rattle.std.proofs.Common.{◌≡◌, ℕ, zero, suc, ◌+◌, List, [], ◌∷◌, ◌++◌, Bool, true, false, cond, Option, None, Some, refl, sym, ap, ◌∙◌, subst, arith}
-use Rattle.std.specs.Prelude.{◌==◌, ◌||◌, length, fold}
+use Rattle.std.specs.Prelude.{◌==◌, length, fold}
 use Rattle.std.proofs.lemmas.List.{append-nil, append_assoc, length-append}
 use Rattle.std.proofs.lemmas.Bool.{eq-eqb}
 use Rattle.std.specs.Map.{keys_of}
@@ -9,6 +9,7 @@ use Rattle.plain_tree.specs.Below.{is_among, children, walk, at_and_below}
 use Rattle.plain_tree.specs.Subtrees.{place_of, copy_number, copied_node, copies}
 use Rattle.tree_laws.specs.Numbers.{Ascend}
 use Rattle.tree_laws.proofs.Ascending.{lower}
+use Rattle.tree_laws.proofs.Bools.{both_false}
 
 -- each is none of those before it
 abbrev pub Fresh : List ℕ → List ℕ → Type 0
@@ -39,10 +40,6 @@ pub visited_once : (t : Tree) (inode : ℕ) → Fresh [] (at_and_below t inode)
 visited_once t inode = visit (suc (length t.nodes)) t inode [] _
 
 -- ---- the numbers of copies
-
-both_false : (a b : Bool) → (a || b) ≡ false → (a ≡ false) × (b ≡ false)
-both_false true b is = absurd (cc is)
-both_false false b is = (refl, is)
 
 place_behind : (seen : List ℕ) (inode : ℕ) (inodes : List ℕ) → is_among seen inode ≡ false → place_of inode (seen ++ inode ∷ inodes) ≡ length seen
 place_behind [] inode inodes new = rw (eq-eqb inode inode refl) refl

@@ -2,15 +2,19 @@
 #![tactic(auto)]
 
 mod changes;
+mod directories;
 mod entries;
 mod files;
+mod limits;
 mod locks;
 mod names;
 mod numbers;
 
 pub use changes::changes_stay_in_one_node;
-pub use entries::renamed_to_itself_is_as_before;
+pub use directories::{directories_stay_one_tree, orphans_stay_open_files};
+pub use entries::{entries_name_nodes, names_stay_legal, renamed_to_itself_is_as_before};
 pub use files::{truncated_is_cut, written_is_read};
+pub use limits::limits_stay;
 pub use locks::{locked_nodes_refuse, locked_nodes_stay};
 pub use names::names_stay_in_order;
 pub use numbers::nodes_stay_in_order;

@@ -1,0 +1,194 @@
+-- One tree of names without orphans, through a rename.
+use Rattle.std.proofs.Common.{◌≡◌, ◌≢◌, ℕ, List, [], Bool, true, false, cond, Option, None, Some, refl, sym, ap, ◌∙◌, inl, inr, subst}
+use Rattle.std.specs.Prelude.{◌==◌, ◌&&◌, option_and_then}
+use Rattle.std.proofs.lemmas.Bool.{eqb-true, eq-eqb, ne_eqb}
+use Rattle.s3_base.specs.declared.node_kind.Kind.{Kind}
+use Rattle.s3_base.specs.declared.node_kind.Kind.TheVariants as kinds
+use Rattle.plain_tree.specs.Attributes.{kind_of}
+use Rattle.plain_tree.specs.Below.{is_among, at_and_below, is_at_or_below}
+use Rattle.plain_tree.specs.Checks.{keep_check, entry_check}
+use Rattle.plain_tree.specs.Entries.{is_directory, is_folder, entry_at, add_entry, drop_entry}
+use Rattle.plain_tree.specs.Operations.{move_checks}
+use Rattle.plain_tree.specs.Subtrees.{is_same, dropped, moved_entry}
+use Rattle.plain_tree.specs.Tree.{Content, Regular, Directory, Link, Node, Tree, node_at, change_node, stamped}
+use Rattle.tree_laws.specs.Names.{NamesInOrder}
+use Rattle.tree_laws.specs.Numbers.{InOrder}
+use Rattle.tree_laws.proofs.Bools.{left_false}
+use Rattle.tree_laws.proofs.Gaining.{IsBelow, Moves, moved}
+use Rattle.tree_laws.proofs.Losing.{Unlinks, none_some, unlinked}
+use Rattle.tree_laws.proofs.Named as names_by
+use Rattle.tree_laws.proofs.Ordered as numbers_by
+use Rattle.tree_laws.proofs.Passing.{AllPass, not_failed}
+use Rattle.tree_laws.proofs.Shape.{Grown, NoneGoes, Only, IsPlace, one_entry, not_there, Same}
+use Rattle.tree_laws.proofs.Standing.{Sound, empty_is, keep_is, lost}
+use Rattle.tree_laws.proofs.TreeShape.{kind_in, shape_of, same_shape, drop_shape, Links, add_shape}
+use Rattle.tree_laws.proofs.Walked.{below_shape}
+
+-- what lies at and below the node that moves, and where it goes is not there
+record Branch (t : Tree) (x np : ℕ) : Type 0 where
+  pub among : ℕ → Bool
+  pub below : IsBelow (shape_of t) x among
+  pub outside : among np ≡ false
+
+pub folder_content : (content : Content) → kind_of content ≡ kinds.Directory → is_directory content ≡ true
+folder_content (Directory entries) is = refl
+folder_content (Regular bytes) is = absurd (cc is)
+folder_content (Link target) is = absurd (cc is)
+
+pub is_a_folder : (found : Option Node) → kind_in found ≡ Some kinds.Directory → is_folder found ≡ true
+is_a_folder None is = absurd (cc is)
+is_a_folder (Some node) is =
+    let same : kind_of node.content ≡ kinds.Directory = cc is in
+    folder_content node.content same
+
+alone : (t : Tree) (x np : ℕ) → Sound t → (kind_in (node_at t x) ≡ Some kinds.Directory → ⊥) → kind_in (node_at t np) ≡ Some kinds.Directory → Branch t x np
+alone t x np sound file folder = record {
+  among = λ y. y == x;
+  below = record {
+    itself = eq-eqb x x refl;
+    down = λ q y m is names. absurd (file (ap (λ k. kind_in (node_at t k)) (sym (eqb-true q x is)) ∙ sound.grown.holds q y m names));
+    up = λ y is. inl (eqb-true y x is);
+  };
+  outside = ne_eqb np x (λ same. file (ap (λ k. kind_in (node_at t k)) (sym same) ∙ folder));
+}
+
+branch_of : (t : Tree) (x np : ℕ) (k : Kind) → Sound t → kind_in (node_at t x) ≡ Some k → kind_in (node_at t np) ≡ Some kinds.Directory
+    → (is_at_or_below t x np && is_folder (node_at t x)) ≡ false → Branch t x np
+branch_of t x np kinds.Directory sound kind folder passes = record {
+  among = is_among (at_and_below t x);
+  below = below_shape t sound.names x;
+  outside = left_false (is_at_or_below t x np) (is_folder (node_at t x)) passes (is_a_folder (node_at t x) kind);
+}
+branch_of t x np kinds.Regular sound kind folder passes =
+    alone t x np sound (λ is.
+    let both_ways : Some kinds.Regular ≡ Some kinds.Directory = sym kind ∙ is in
+    cc both_ways) folder
+branch_of t x np kinds.Link sound kind folder passes =
+    alone t x np sound (λ is.
+    let both_ways : Some kinds.Link ≡ Some kinds.Directory = sym kind ∙ is in
+    cc both_ways) folder
+
+-- ---- the tree in which the entry has moved
+
+abbrev moved_to : ℕ → List ℕ → ℕ → List ℕ → ℕ → ℕ → Tree → Tree
+moved_to p n np nn x now t = change_node x (stamped now) (add_entry np nn x now (drop_entry np nn now (drop_entry p n now t)))
+
+move_shape : (t : Tree) (p np x now : ℕ) (n nn : List ℕ) → NamesInOrder t → kind_in (node_at t np) ≡ Some kinds.Directory → (IsPlace np nn p n → ⊥)
+    → Moves (shape_of t) (shape_of (moved_to p n np nn x now t)) p n np nn x
+move_shape t p np x now n nn names folder differs =
+    let one : Tree = drop_entry p n now t in
+    let two : Tree = drop_entry np nn now one in
+    let three : Tree = add_entry np nn x now two in
+    let first : Unlinks (shape_of t) (shape_of one) p n = drop_shape p n now t names in
+    let second : Unlinks (shape_of one) (shape_of two) np nn = drop_shape np nn now one (names_by.drop p n now t names) in
+    let links : Links (shape_of two) (shape_of three) np nn x = add_shape np nn x now two (second.kind np ∙ first.kind np ∙ folder) in
+    let same : Same (shape_of three) (shape_of (moved_to p n np nn x now t)) = same_shape (stamped now) (λ node. refl) (λ name node. refl) x three in
+    record {
+      kind = λ y. same.kind y ∙ links.kind y ∙ second.kind y ∙ first.kind y;
+      opened = λ y. same.opened y ∙ links.opened y ∙ second.opened y ∙ first.opened y;
+      here = same.entry np nn ∙ links.here;
+      gone = same.entry p n ∙ links.rest p n differs ∙ second.rest p n differs ∙ first.gone;
+      rest = λ q m old new. same.entry q m ∙ links.rest q m new ∙ second.rest q m new ∙ first.rest q m old;
+    }
+
+ordered_moved : (t : Tree) (p np x now : ℕ) (n nn : List ℕ) → InOrder t → InOrder (moved_to p n np nn x now t)
+ordered_moved t p np x now n nn ordered =
+    let one : Tree = drop_entry p n now t in
+    let two : Tree = drop_entry np nn now one in
+    numbers_by.change (stamped now) x (add_entry np nn x now two) (numbers_by.change _ np two (numbers_by.change _ np one (numbers_by.change _ p t ordered)))
+
+names_moved : (t : Tree) (p np x now : ℕ) (n nn : List ℕ) → NamesInOrder t → NamesInOrder (moved_to p n np nn x now t)
+names_moved t p np x now n nn names =
+    let one : Tree = drop_entry p n now t in
+    let two : Tree = drop_entry np nn now one in
+    names_by.stamp now x (add_entry np nn x now two) (names_by.add np nn x now two (names_by.drop np nn now one (names_by.drop p n now t names)))
+
+-- ---- a rename
+
+to_a_new_name : (t : Tree) (p np x now : ℕ) (n nn : List ℕ) → Sound t → Branch t x np → entry_at t p n ≡ Some x → entry_at t np nn ≡ None → kind_in (node_at t np) ≡ Some kinds.Directory
+    → keep_check p n ≡ None → Grown NoneGoes (shape_of (moved_to p n np nn x now t))
+to_a_new_name t p np x now n nn sound branch names free folder keep =
+    moved NoneGoes (shape_of t) (shape_of (moved_to p n np nn x now t)) p np x n nn branch.among
+    (move_shape t p np x now n nn sound.names folder (λ same. not_there (entry_at t) np nn p n x same free names))
+    (record {
+      names = names;
+      free = free;
+      folder = folder;
+      stays = λ none. none;
+      parent_stays = λ none. none;
+      other = keep_is p n keep;
+      below = branch.below;
+      outside = branch.outside;
+    })
+    sound.grown
+
+-- what lies below the node that moves is as it was where another entry has gone
+still_below : (t : Tree) (np x now : ℕ) (nn : List ℕ) → Sound t → (branch : Branch t x np) → IsBelow (shape_of (drop_entry np nn now t)) x branch.among
+still_below t np x now nn sound branch =
+    let drops : Unlinks (shape_of t) (shape_of (drop_entry np nn now t)) np nn = drop_shape np nn now t sound.names in
+    let differs : (q : ℕ) (m : List ℕ) → branch.among q ≡ true → IsPlace np nn q m → ⊥ = λ q m within same.
+    let both_ways : true ≡ false = sym within ∙ ap branch.among same.0 ∙ branch.outside in
+    cc both_ways in
+    record {
+      itself = branch.below.itself;
+      down = λ q y m within is. branch.below.down q y m within (sym (drops.rest q m (differs q m within)) ∙ is);
+      up = λ y within.
+          elim (branch.below.up y within) [
+            | inl same ↦ inl same
+            | inr from ↦ inr (from.0, from.1, from.2, drops.rest from.0 from.1 (differs from.0 from.1 from.2) ∙ from.3)
+          ];
+    }
+
+over_another : (t : Tree) (p np x r now : ℕ) (n nn : List ℕ) → Sound t → Branch t x np → entry_at t p n ≡ Some x → entry_at t np nn ≡ Some r → x ≢ r → kind_in (node_at t np) ≡ Some kinds.Directory
+    → keep_check p n ≡ None → keep_check np nn ≡ None → ((m : List ℕ) → entry_at t r m ≡ None) → Grown (Only r) (shape_of (moved_to p n np nn x now t))
+over_another t p np x r now n nn sound branch names replaced apart folder keep new_keep empty =
+    let differs : IsPlace np nn p n → ⊥ = λ same. apart (one_entry (entry_at t) np nn p n r x same replaced names) in
+    let drops : Unlinks (shape_of t) (shape_of (drop_entry np nn now t)) np nn = drop_shape np nn now t sound.names in
+    let moves : Moves (shape_of t) (shape_of (moved_to p n np nn x now t)) p n np nn x = move_shape t p np x now n nn sound.names folder differs in
+    moved (Only r) (shape_of (drop_entry np nn now t)) (shape_of (moved_to p n np nn x now t)) p np x n nn branch.among
+    (record {
+      kind = λ y. moves.kind y ∙ sym (drops.kind y);
+      opened = λ y. moves.opened y ∙ sym (drops.opened y);
+      here = moves.here;
+      gone = moves.gone;
+      rest = λ q m old new. moves.rest q m old new ∙ sym (drops.rest q m new);
+    })
+    (record {
+      names = drops.rest p n differs ∙ names;
+      free = drops.gone;
+      folder = drops.kind np ∙ folder;
+      stays = apart;
+      parent_stays = λ same. none_some (entry_at t r nn) r (empty nn) (ap (λ k. entry_at t k nn) (sym same) ∙ replaced);
+      other = keep_is p n keep;
+      below = still_below t np x now nn sound branch;
+      outside = branch.outside;
+    })
+    (unlinked (shape_of t) (shape_of (drop_entry np nn now t)) np r nn drops sound.grown replaced (keep_is np nn new_keep) empty)
+
+differ_if : (r x : ℕ) → (r == x) ≡ false → x ≢ r
+differ_if r x is same =
+    let both_ways : true ≡ false = sym (eq-eqb r x (sym same)) ∙ is in
+    cc both_ways
+
+renamed_if : (t : Tree) (p np now : ℕ) (n nn : List ℕ) → Sound t → (found replaced : Option ℕ) → entry_at t p n ≡ found → entry_at t np nn ≡ replaced → kind_in (node_at t np) ≡ Some kinds.Directory
+    → keep_check p n ≡ None → keep_check np nn ≡ None → entry_check found ≡ None → (test : Bool) → is_same replaced found ≡ test
+    → AllPass (cond test [] (move_checks t found (option_and_then (node_at t) found) (option_and_then (node_at t) replaced) np))
+    → Grown NoneGoes (shape_of (cond test t (moved_entry p n np nn now found t)))
+renamed_if t p np now n nn sound found replaced names new folder keep new_keep there true same passes = sound.grown
+renamed_if t p np now n nn sound None replaced names new folder keep new_keep there false same passes = absurd (cc there)
+renamed_if t p np now n nn sound (Some x) None names new folder keep new_keep there false same passes =
+    let node = sound.grown.there p x n names in
+    let branch : Branch t x np = branch_of t x np node.0 sound node.1 folder (not_failed 22 _ passes.0) in
+    subst (λ r. Grown NoneGoes (shape_of (dropped now r (moved_to p n np nn x now t)))) (sym new) (to_a_new_name t p np x now n nn sound branch names new folder keep)
+renamed_if t p np now n nn sound (Some x) (Some r) names new folder keep new_keep there false same passes =
+    let node = sound.grown.there p x n names in
+    let branch : Branch t x np = branch_of t x np node.0 sound node.1 folder (not_failed 22 _ passes.0) in
+    subst (λ r. Grown NoneGoes (shape_of (dropped now r (moved_to p n np nn x now t)))) (sym new)
+    (lost r now (moved_to p n np nn x now t) (ordered_moved t p np x now n nn sound.ordered) (names_moved t p np x now n nn sound.names)
+    (over_another t p np x r now n nn sound branch names new (differ_if r x same) folder keep new_keep (empty_is (node_at t r) passes.1.1.1.1.0)))
+
+pub renamed : (t : Tree) (p np now : ℕ) (n nn : List ℕ) → Sound t → kind_in (node_at t np) ≡ Some kinds.Directory → keep_check p n ≡ None → keep_check np nn ≡ None → entry_check (entry_at t p n) ≡ None
+    → AllPass (cond (is_same (entry_at t np nn) (entry_at t p n)) [] (move_checks t (entry_at t p n) (option_and_then (node_at t) (entry_at t p n)) (option_and_then (node_at t) (entry_at t np nn)) np))
+    → Grown NoneGoes (shape_of (cond (is_same (entry_at t np nn) (entry_at t p n)) t (moved_entry p n np nn now (entry_at t p n) t)))
+renamed t p np now n nn sound folder keep new_keep there passes =
+    renamed_if t p np now n nn sound (entry_at t p n) (entry_at t np nn) refl refl folder keep new_keep there (is_same (entry_at t np nn) (entry_at t p n)) refl passes
