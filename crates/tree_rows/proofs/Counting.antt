@@ -1,6 +1,6 @@
 -- Sums and counts over lists, and rows that are found by their own keys.
-use Rattle.std.proofs.Common.{◌≡◌, ℕ, ◌+◌, List, [], ◌∷◌, Bool, true, false, cond, Some, refl, sym, ap, ◌∙◌, subst, arith}
-use Rattle.std.specs.Prelude.{IsTrue, not, ◌||◌, is_some, count_by, sum_by, map, find}
+use Rattle.std.proofs.Common.{◌≡◌, ℕ, ◌+◌, List, [], ◌∷◌, Bool, true, false, cond, Some, refl, sym, ap, ◌∙◌, arith}
+use Rattle.std.specs.Prelude.{IsTrue, not, ◌||◌, is_some, count_by, sum_by, map}
 use Rattle.std.specs.List.{list_all, list_any, AllByRecursion}
 use Rattle.std.proofs.lemmas.List.Sums.{sum_by-cons}
 use Rattle.std.specs.Cmp.{IsTotalOrder, tied_itself}
@@ -9,55 +9,6 @@ use Rattle.std.specs.declared.cmp.Ordering.TheVariants.{Less, Equal, Greater}
 use Rattle.std.specs.Ordering.{is_eq, is_lt, ordering_reverse}
 use Rattle.s3_rows.specs.Keyed.{Order, is_past, has_key, rises, row_at}
 use Rattle.s3_rows.proofs.Passing.{first, second, all_pass}
-
--- ---- what is found
-
-pub found_passes : {R : Type 0} (p : R → Bool) (rows : List R) (x : R) → find p rows ≡ Some x → IsTrue (p x)
-found_passes p [] x is = absurd (cc is)
-found_passes p (r ∷ rs) x is = by_case (found_passes p rs x) (p r) refl is
-  where
-    by_case : (find p rs ≡ Some x → IsTrue (p x)) → (b : Bool) → p r ≡ b → cond b (Some r) (find p rs) ≡ Some x → IsTrue (p x)
-    by_case others true passes found =
-        let same : r ≡ x = cc found in
-        subst (λ y. IsTrue (p y)) same passes
-    by_case others false fails found = others found
-
--- a test that all pass
-pub found_all : {R : Type 0} (p q : R → Bool) (rows : List R) (x : R) → IsTrue (list_all q rows) → find p rows ≡ Some x → IsTrue (q x)
-found_all p q [] x all is = absurd (cc is)
-found_all p q (r ∷ rs) x all is = by_case (found_all p q rs x (second (q r) (list_all q rs) all)) (p r) is
-  where
-    by_case : (find p rs ≡ Some x → IsTrue (q x)) → (b : Bool) → cond b (Some r) (find p rs) ≡ Some x → IsTrue (q x)
-    by_case others true found =
-        let same : r ≡ x = cc found in
-        subst (λ y. IsTrue (q y)) same (first (q r) (list_all q rs) all)
-    by_case others false found = others found
-
--- what is found passes any test that it passes, so some row does
-pub found_any : {R : Type 0} (p q : R → Bool) (rows : List R) (x : R) → find p rows ≡ Some x → IsTrue (q x) → IsTrue (list_any q rows)
-found_any p q [] x is passes = absurd (cc is)
-found_any p q (r ∷ rs) x is passes = by_case (λ found. found_any p q rs x found passes) (p r) is (q r) refl
-  where
-    by_case : (find p rs ≡ Some x → IsTrue (list_any q rs)) → (b : Bool) → cond b (Some r) (find p rs) ≡ Some x → (c : Bool) → q r ≡ c → IsTrue (c || list_any q rs)
-    by_case others b found true own = refl
-    by_case others true found false own =
-        let same : r ≡ x = cc found in
-        let no_pass : false ≡ true = sym own ∙ subst (λ y. IsTrue (q y)) (sym same) passes in
-        absurd (cc no_pass)
-    by_case others false found false own = others found
-
-pub some_found : {R : Type 0} (p : R → Bool) (rows : List R) → IsTrue (list_any p rows) → (x : R) × (find p rows ≡ Some x)
-some_found p [] any = absurd (cc any)
-some_found p (r ∷ rs) any = by_case (some_found p rs) (p r) any
-  where
-    by_case : (IsTrue (list_any p rs) → (x : _) × (find p rs ≡ Some x)) → (b : Bool) → IsTrue (b || list_any p rs) → (x : _) × (cond b (Some r) (find p rs) ≡ Some x)
-    by_case others true passes = (r, refl)
-    by_case others false passes = others passes
-
-pub any_follows : {R : Type 0} (p q : R → Bool) → ((r : R) → IsTrue (p r) → IsTrue (q r)) → (rows : List R) → IsTrue (list_any p rows) → IsTrue (list_any q rows)
-any_follows p q follows rows any =
-    let x = some_found p rows any in
-    found_any p q rows x.0 x.1 (follows x.0 (found_passes p rows x.0 x.1))
 
 -- ---- sums
 

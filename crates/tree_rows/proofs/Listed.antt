@@ -15,7 +15,8 @@ use Rattle.s3_rows.specs.Validity.{finds_of_entry, has_inode, is_directory, any_
 use Rattle.s3_rows.proofs.Passing.{both, first, second}
 use Rattle.s3_rows.proofs.Sorting.{any_found, negated, row_at-sorted, count-sorted}
 use Rattle.tree_rows.specs.Shapes.{Directory, entries_in}
-use Rattle.tree_rows.proofs.Counting.{any_follows, sum_by-map}
+use Rattle.s3_rows.proofs.Finding.{any_follows}
+use Rattle.tree_rows.proofs.Counting.{sum_by-map}
 use Rattle.tree_rows.proofs.Shaped.{lookup_made, entry_of_shape, names_in_shape}
 
 -- an entry of the directory with this name

@@ -23,7 +23,8 @@ use Rattle.s3_rows.specs.Validity.{IsValid, finds_of_entry, has_inode, is_direct
 use Rattle.s3_rows.proofs.Passing.{both, first, second}
 use Rattle.s3_rows.proofs.Sorting.{negated, is_equal}
 use Rattle.tree_rows.specs.Shapes.{Represents}
-use Rattle.tree_rows.proofs.Counting.{found_passes, found_all, found_any, some_found, count_none, none_passes}
+use Rattle.s3_rows.proofs.Finding.{found_passes, found_all, found_any, some_found}
+use Rattle.tree_rows.proofs.Counting.{count_none, none_passes}
 use Rattle.tree_rows.proofs.Listed.{is_entry}
 use Rattle.tree_rows.proofs.Whole.{folder_is, node_is, entry_found, entry_made, count_is, number_of}
 

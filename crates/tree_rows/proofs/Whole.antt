@@ -20,7 +20,8 @@ use Rattle.s3_rows.specs.Validity.{finds_of_entry, has_inode, is_directory, any_
 use Rattle.s3_rows.proofs.Passing.{both, first, second, all_pass}
 use Rattle.s3_rows.proofs.Sorting.{negated}
 use Rattle.tree_rows.specs.Shapes.{ContentShape, Regular, Directory, Link, NodeShape, shape_of_node, entries_in, target_in, node_of_row, Represents}
-use Rattle.tree_rows.proofs.Counting.{found_passes, sum_same, sum_swap, count_none, self_found, one_found}
+use Rattle.s3_rows.proofs.Finding.{found_passes}
+use Rattle.tree_rows.proofs.Counting.{sum_same, sum_swap, count_none, self_found, one_found}
 use Rattle.tree_rows.proofs.Shaped.{entry_of_shape, names_in_shape, is_folder_content, is_folder_shape, found_alike, is_folder_there, entry_there, naming_there}
 use Rattle.tree_rows.proofs.Listed.{is_entry, names_inode, entry_in, names_in_directory}
 
