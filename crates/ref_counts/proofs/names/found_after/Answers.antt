@@ -1,0 +1,23 @@
+use Rattle.std.proofs.Common.{◌≡◌, ◌+◌, List, [], ◌∷◌, drop, sym, ap, ◌∙◌, subst}
+use Rattle.s3_rows.specs.declared.change.Change.{Change}
+use Rattle.s3_rows.specs.Tables.{Tables}
+use Rattle.s3_rows.specs.Batches.{after_change, tables_after}
+use Rattle.s3_rows.proofs.Batched.{ordered}
+use Rattle.ref_counts.specs.Names.{StaysUnique}
+use Rattle.ref_counts.proofs.Named.{one_more, unique_now}
+use Rattle.ref_counts.proofs.names.found_after.Goals as goal
+
+pub loop-change-preserved : goal.loop-change-preserved
+loop-change-preserved c t is in_order unique =
+    let old = c.loop-change.invariant t is in_order unique in
+    let u : Tables = old.0 in
+    let item : Change = c.change-item.result in
+    let rest : List Change = drop (c.loop-change.change-index + 1) c.args.changes.now in
+    let here : drop c.loop-change.change-index c.args.changes.now ≡ item ∷ rest = one_more c.args.changes.now c.loop-change.change-index item c.loop-change-test.true c.change-item.is in
+    let stays : StaysUnique (item ∷ rest) u = subst (λ cs. StaysUnique cs u) here old.3 in (
+      after_change item u,
+      c.in_ok-found.ensures u old.1 old.2 stays.0 (unique_now rest (after_change item u) stays.1),
+      ordered (item ∷ []) u old.2,
+      stays.1,
+      ap (λ cs. tables_after cs u) (sym here) ∙ old.4,
+    )
