@@ -81,25 +81,20 @@ refused t pass now op errno after outcome =
 -- by whether the operation is built
 by_built : (b : Bool) (t after by_rules : Tree) (reply rules : Reply) → (b ≡ true → ((reply ≡ rules) × (after ≡ by_rules)) ⊎ ((reply ≡ no_memory) × (after ≡ t))) → (b ≡ false → (reply ≡ not_built) × (after ≡ t))
     → ((reply ≡ cond b rules not_built) × (after ≡ cond b by_rules t)) ⊎ (IsTrue b × (reply ≡ no_memory) × (after ≡ t))
-by_built true t after by_rules reply rules yes no = ⊎_elim (λ p. inl p) (λ q. inr (refl, q.0, q.1)) (yes refl)
-by_built false t after by_rules reply rules yes no = inl (no refl)
+by_built true t after by_rules reply rules built_gives other_gives = ⊎_elim (λ p. inl p) (λ q. inr (refl, q.0, q.1)) (built_gives refl)
+by_built false t after by_rules reply rules built_gives other_gives = inl (other_gives refl)
 
 core_answer : (t : Tree) (call : Request) (reply : Reply) (after : Tree) → (is_built call.op ≡ true → IsAnswer t call reply after) → (is_built call.op ≡ false → (reply ≡ not_built) × (after ≡ t)) → IsCoreAnswer t call reply after
-core_answer t call reply after yes no = by_built (is_built call.op) t after (tree_after t call.pass call.op call.now) reply (reply_to t call.pass call.op call.now) yes no
+core_answer t call reply after built_gives other_gives = by_built (is_built call.op) t after (tree_after t call.pass call.op call.now) reply (reply_to t call.pass call.op call.now) built_gives other_gives
 
 -- an outcome as an answer of the core
 pub core_answered : (t : Tree) (pass now : ℕ) (op : Op) (reply : Reply) (after : Tree)
     → (IsTrue (is_built op) → IsOutcome t pass op now (Ok reply) after) → (is_built op ≡ false → IsUnbuilt t (Ok reply) after) → IsCoreAnswer t (record { pass = pass; now = now; op = op }) reply after
-core_answered t pass now op reply after yes no =
-    core_answer t (record { pass = pass; now = now; op = op }) reply after (λ built. answered t pass now op reply after (yes built)) (λ unbuilt. absurd (no unbuilt))
+core_answered t pass now op reply after built_gives other_gives =
+    core_answer t (record { pass = pass; now = now; op = op }) reply after (λ built. answered t pass now op reply after (built_gives built)) (λ unbuilt. absurd (other_gives unbuilt))
 
 pub core_refused : (t : Tree) (pass now : ℕ) (op : Op) (errno : Errno) (after : Tree)
     → (IsTrue (is_built op) → IsOutcome t pass op now (Err (Refused errno)) after) → (is_built op ≡ false → IsUnbuilt t (Err (Refused errno)) after) → IsCoreAnswer t (record { pass = pass; now = now; op = op }) (replies.Errno errno) after
-core_refused t pass now op errno after yes no =
-    core_answer t (record { pass = pass; now = now; op = op }) (replies.Errno errno) after (λ built. refused t pass now op errno after (yes built))
-    (λ unbuilt. let ends = no unbuilt in (ap (λ (n : ℕ). replies.Errno (record { 0 = n })) ends.0, ends.1))
-
-pub core_stopped : (t : Tree) (pass now : ℕ) (op : Op) (after : Tree)
-    → (IsTrue (is_built op) → IsOutcome t pass op now (Err Memory) after) → (is_built op ≡ false → IsUnbuilt t (Err Memory) after) → IsCoreAnswer t (record { pass = pass; now = now; op = op }) no_memory after
-core_stopped t pass now op after yes no =
-    core_answer t (record { pass = pass; now = now; op = op }) no_memory after (λ built. inr (refl, yes built)) (λ unbuilt. absurd (no unbuilt))
+core_refused t pass now op errno after built_gives other_gives =
+    core_answer t (record { pass = pass; now = now; op = op }) (replies.Errno errno) after (λ built. refused t pass now op errno after (built_gives built))
+    (λ unbuilt. let ends = other_gives unbuilt in (ap (λ (n : ℕ). replies.Errno (record { 0 = n })) ends.0, ends.1))

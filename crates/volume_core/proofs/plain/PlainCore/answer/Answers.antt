@@ -1,4 +1,4 @@
-use Rattle.volume_core.proofs.Outcome.{core_answered, core_refused, core_stopped}
+use Rattle.volume_core.proofs.Outcome.{core_answered, core_refused}
 use Rattle.volume_core.proofs.plain.PlainCore.answer.Goals as goal
 
 pub returns-in-Ok-clause-answer : goal.returns-in-Ok-clause-answer
