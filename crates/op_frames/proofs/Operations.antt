@@ -1,6 +1,6 @@
 -- The laws of the operations and of the steps of a replay. Each shape of fields has a law, and each operation its line three
 -- times: its code and fields, its place in the row of codes, and its spelling.
-use Rattle.std.proofs.Common.{◌≡◌, ℕ, ◌+◌, ◌-◌, ◌^◌, ◌≤◌, true, ◌&&◌, ◌||◌, cond, eqb, ltb, leb, List, [], ◌∷◌, length, Ok, refl, sym, ap, ap₂, subst, ◌∙◌, arith}
+use Rattle.std.proofs.Common.{◌≡◌, ℕ, ◌+◌, ◌-◌, ◌^◌, ◌≤◌, true, ◌&&◌, ◌||◌, cond, eqb, ltb, leb, [], ◌∷◌, length, Ok, refl, sym, ap, ap₂, subst, ◌∙◌, arith}
 use Rattle.std.proofs.Math.Bool.{or_comm}
 use Rattle.std.proofs.lemmas.Bool.{and_parts, eqb-true, eqb-false, ltb-true, leb-true}
 use Rattle.op_frames.specs.declared.operation.Op.{Op}
@@ -9,7 +9,7 @@ use Rattle.op_frames.specs.declared.operation.SetFlag.{SetFlag}
 use Rattle.op_frames.specs.declared.operation.SetFlag.TheVariants as flags
 use Rattle.op_frames.specs.declared.operation.Step.{Step}
 use Rattle.op_frames.specs.declared.operation.Step.TheVariants.{Call, End}
-use Rattle.op_frames.specs.Format.{◌>>=◌, Format, byte, ◌▸◌, made, always, between}
+use Rattle.op_frames.specs.Format.{Format, byte, ◌▸◌, made, always, between}
 use Rattle.op_frames.specs.Operations.{u16_field, u32_field, u64_field, name_field, data_length_field, data_field, pass_field, time_field, set_flag_code, set_flag_of, set_flag_field, lookup_fields, getattr_fields, chmod_fields, chown_fields, utimes_fields, create_fields, rename_fields, link_fields, symlink_fields, read_fields, write_fields, readdir_fields, setxattr_fields, cache_size_fields, is_operation, operation_field, op_spelling, is_op, op_to_8, op_to_16, op_to_24, op_to_33, op_behind, op_field, is_step_kind, kind_field, call_fields, step_spelling, is_step, step_behind, step_field}
 use Rattle.op_frames.proofs.Within.{cond_has, stand, Within-then, stayed}
 use Rattle.op_frames.proofs.Formats.{On-then, Goes-then, behind, with_behind, Took, IsFormat, byte_is, number16_is, number32_is, number64_is, counted_is, then_is}
