@@ -18,7 +18,7 @@ use Rattle.plain_tree.specs.Operations.{checks, effect, success, reply_to, tree_
 use Rattle.s3_base.specs.declared.errors.Errno.{Errno}
 use Rattle.volume_core.specs.Built.{is_built, not_built, IsCoreAnswer}
 use Rattle.volume_core.specs.Refusals.{IsOutcome, IsUnbuilt}
-use Rattle.volume_core.specs.declared.refusal.Refusal.TheVariants.{Refused, Memory}
+use Rattle.volume_core.specs.declared.refusal.Refusal.TheVariants.{Refused}
 use Rattle.plain_tree.specs.Tree as tree
 use Rattle.plain_tree.specs.Tree.{Tree, with_node, with_handle}
 use Rattle.volume_core.specs.Sound.{AllBelow}
