@@ -8,8 +8,7 @@ use Rattle.op_frames.specs.declared.reply.Reply.{Reply}
 use Rattle.op_frames.specs.Answers.{answer_frame, bad_input_frame}
 use Rattle.op_frames.specs.Replay.{Request, Replay, Verdict, Ended, Refused, ended, with_call, replay_of}
 use Rattle.plain_tree.specs.Tree.{Tree, made_tree}
-use Rattle.plain_tree.specs.Operations.{tree_after}
-use Rattle.plain_tree.specs.Calls.{replies_to, Answers, IsAnswer}
+use Rattle.volume_core.specs.Built.{core_reply, core_tree, IsCoreAnswer, CoreAnswers}
 use Rattle.offline_tool.specs.declared.reader.Next.{Next}
 use Rattle.offline_tool.specs.declared.reader.Next.TheVariants as next
 use Rattle.offline_tool.specs.declared.reader.Stop.{Stop}
@@ -23,15 +22,21 @@ use Rattle.offline_tool.specs.Turns.{stopped_turn, KeepsOutput}
 
 -- ---- outputs
 
--- the rules' own replies are always allowed
-plain_answers : (t : Tree) (calls : List Request) → Answers t calls (replies_to t calls)
-plain_answers t [] = tt
-plain_answers t (call ∷ calls) = (tree_after t call.pass call.op call.now, inl (refl, refl), plain_answers (tree_after t call.pass call.op call.now) calls)
+-- the core's replies where memory suffices
+core_replies : Tree → List Request → List Reply
+core_replies t [] = []
+core_replies t (call ∷ calls) = core_reply t call ∷ core_replies (core_tree t call) calls
 
-some_output : (t : Tree) (left : Replay) → IsOutputOf t left (output_of (replies_to t left.calls) left.verdict)
-some_output t left = (replies_to t left.calls, plain_answers t left.calls, refl)
+-- they are always allowed
+core_answers : (t : Tree) (calls : List Request) → CoreAnswers t calls (core_replies t calls)
+unfolding core_replies
+core_answers t [] = tt
+core_answers t (call ∷ calls) = (core_tree t call, inl (refl, refl), core_answers (core_tree t call) calls)
 
-call_output : (t after : Tree) (call : Request) (reply : Reply) (left : Replay) (rest : List ℕ) → IsAnswer t call reply after → IsOutputOf after left rest → IsOutputOf t (with_call call left) (answer_frame reply ++ rest)
+some_output : (t : Tree) (left : Replay) → IsOutputOf t left (output_of (core_replies t left.calls) left.verdict)
+some_output t left = (core_replies t left.calls, core_answers t left.calls, refl)
+
+call_output : (t after : Tree) (call : Request) (reply : Reply) (left : Replay) (rest : List ℕ) → IsCoreAnswer t call reply after → IsOutputOf after left rest → IsOutputOf t (with_call call left) (answer_frame reply ++ rest)
 call_output t after call reply left rest answer output =
     let frame = answer_frame reply in
     let others = flat_map answer_frame output.0 in
@@ -41,7 +46,7 @@ call_output t after call reply left rest answer output =
 
 -- ---- how an output goes on
 
-goes_call : (size : ℕ) (input out : List ℕ) (t after : Tree) (call : Request) (reply : Reply) (left behind : Replay) → left ≡ with_call call behind → IsAnswer t call reply after → GoesOn size input t left out → GoesOn size input after behind (out ++ answer_frame reply)
+goes_call : (size : ℕ) (input out : List ℕ) (t after : Tree) (call : Request) (reply : Reply) (left behind : Replay) → left ≡ with_call call behind → IsCoreAnswer t call reply after → GoesOn size input t left out → GoesOn size input after behind (out ++ answer_frame reply)
 goes_call size input out t after call reply left behind same answer goes = λ rest output.
     subst (IsReplayOutput size input) (sym (append_assoc out (answer_frame reply) rest))
     (goes (answer_frame reply ++ rest) (subst (λ (r : Replay). IsOutputOf t r (answer_frame reply ++ rest)) (sym same) (call_output t after call reply behind rest answer output)))
@@ -52,7 +57,7 @@ HasFront size input out = (rest : List ℕ) × IsReplayOutput size input (out ++
 
 has_front : (size : ℕ) (input out : List ℕ) (t : Tree) (left : Replay) → GoesOn size input t left out → HasFront size input out
 unfolding HasFront
-has_front size input out t left goes = (output_of (replies_to t left.calls) left.verdict, goes _ (some_output t left))
+has_front size input out t left goes = (output_of (core_replies t left.calls) left.verdict, goes _ (some_output t left))
 
 -- a front of what is appended next
 cut_front : (size n : ℕ) (input out frame : List ℕ) → HasFront size input (out ++ frame) → HasFront size input (out ++ take n frame)
@@ -88,7 +93,7 @@ stops size input before out t Memory turn after written same is front =
 
 -- a call that was answered
 pub goes_on : (size : ℕ) (input before out : List ℕ) (t later : Tree) (place behind : ℕ) (s : Stream) (call : Request) (reply : Reply) (x : Next) (after : Option Stream) (old new : Option (List ℕ))
-    → x ≡ next.Call call.pass call.now call.op behind → (u : Stream) × (after ≡ Some u) × IsNext x place s u → IsAnswer t call reply later → old ≡ Some (before ++ out) → Appends (answer_frame reply) old new
+    → x ≡ next.Call call.pass call.now call.op behind → (u : Stream) × (after ≡ Some u) × IsNext x place s u → IsCoreAnswer t call reply later → old ≡ Some (before ++ out) → Appends (answer_frame reply) old new
     → GoesOn size input t (replay_left place s) out → KeepsOutput (On behind) size input later before after new
 goes_on size input before out t later place behind s call reply x after old new same following answer is appends goes =
     let u = following.0 in
@@ -97,7 +102,7 @@ goes_on size input before out t later place behind s call reply x after old new 
 
 -- a call whose answer was not written whole
 pub answer_cut : (size : ℕ) (input before out : List ℕ) (t later : Tree) (place behind : ℕ) (s : Stream) (call : Request) (reply : Reply) (x : Next) (stop : Stop) (turn : Turn) (after : Option Stream) (old new : Option (List ℕ))
-    → x ≡ next.Call call.pass call.now call.op behind → (u : Stream) × (after ≡ Some u) × IsNext x place s u → IsAnswer t call reply later → old ≡ Some (before ++ out) → AppendsFront (answer_frame reply) old new → turn ≡ stopped_turn stop
+    → x ≡ next.Call call.pass call.now call.op behind → (u : Stream) × (after ≡ Some u) × IsNext x place s u → IsCoreAnswer t call reply later → old ≡ Some (before ++ out) → AppendsFront (answer_frame reply) old new → turn ≡ stopped_turn stop
     → GoesOn size input t (replay_left place s) out → KeepsOutput turn size input later before after new
 unfolding HasFront
 answer_cut size input before out t later place behind s call reply x stop turn after old new same following answer is appends ends goes =
@@ -150,7 +155,7 @@ not_begun size input before written is =
       is ∙ ap Some (sym (append-nil before)),
       record {
         whole = ⊎_elim (λ e. absurd (omega (arith, e))) (λ e. absurd (omega (arith, e)));
-        front = (output_of (replies_to (made_tree size 0) left.calls) left.verdict, some_output (made_tree size 0) left);
+        front = (output_of (core_replies (made_tree size 0) left.calls) left.verdict, some_output (made_tree size 0) left);
       },
     )
 

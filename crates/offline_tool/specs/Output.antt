@@ -5,7 +5,7 @@ use Rattle.op_frames.specs.declared.reply.Reply.{Reply}
 use Rattle.op_frames.specs.Answers.{answer_frame, bad_input_frame}
 use Rattle.op_frames.specs.Replay.{Replay, Verdict, Ended, Refused, replay_of}
 use Rattle.plain_tree.specs.Tree.{Tree, made_tree}
-use Rattle.plain_tree.specs.Calls.{Answers}
+use Rattle.volume_core.specs.Built.{CoreAnswers}
 
 -- the frame behind the answers to the calls
 abbrev pub verdict_frame : Verdict → List ℕ
@@ -16,10 +16,10 @@ verdict_frame (Refused place) = bad_input_frame place
 abbrev pub output_of : List Reply → Verdict → List ℕ
 output_of replies verdict = flat_map answer_frame replies ++ verdict_frame verdict
 
--- The replies to the calls are the plain tree's from this tree on, but for want of memory, and the output is their
--- answers and the verdict's.
+-- The replies to the calls are the core's from this tree on, but for want of memory, and the output is their answers and
+-- the verdict's.
 abbrev pub IsOutputOf : Tree → Replay → List ℕ → Type 0
-IsOutputOf tree replay output = (replies : List Reply) × Answers tree replay.calls replies × (output ≡ output_of replies replay.verdict)
+IsOutputOf tree replay output = (replies : List Reply) × CoreAnswers tree replay.calls replies × (output ≡ output_of replies replay.verdict)
 
 -- the same for all bytes of an input, from the tree that was just made with blocks of this size at time 0
 abbrev pub IsReplayOutput : ℕ → List ℕ → List ℕ → Type 0

@@ -35,8 +35,8 @@ pub fn run<S: Source, T: Sink>(alloc: Global, words: &WordList, source: &mut S, 
     ensures refused { (limits : Limits) (s : Stream) (place : ℕ) → limits_of words.now ≡ Some limits → S.told source.old ≡ Some s
         → (replay_of s.left).verdict ≡ Refused place → result ≢ 1 → (result ≡ 4) ⊎ (result ≡ 3) }
 
-    // What is written, where source and sink tell their bytes: with 0 and 4 the answers of the plain tree to all calls
-    // and that of the verdict, and else a front of such an output.
+    // What is written, where source and sink tell their bytes: with 0 and 4 the answers of the core to all calls and that
+    // of the verdict, and else a front of such an output.
     ensures output { (limits : Limits) (s : Stream) (before : List ℕ) → limits_of words.now ≡ Some limits
         → S.told source.old ≡ Some s → T.written sink.old ≡ Some before
         → (out : List ℕ) × (T.written sink.new ≡ Some (before ++ out)) × EndsWith limits.block_size s.left result out }

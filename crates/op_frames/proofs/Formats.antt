@@ -8,6 +8,7 @@ use Rattle.std.proofs.lemmas.Nat.{be_bytes_2, be_bytes_4, be_bytes_8, from_be_by
 use Rattle.op_frames.specs.declared.fault.FrameFault.{FrameFault}
 use Rattle.op_frames.specs.declared.fault.FrameFault.TheVariants as faults
 use Rattle.op_frames.specs.Format.{Rest, past, ◌>>=◌, Format, front, checked, byte, number, counted, ◌▸◌}
+use Rattle.op_frames.proofs.Within.{cond_has, stand, Within, Within-then, stayed, front_within, checked_within}
 
 abbrev pub IsBytes : List ℕ → Type 0
 IsBytes bytes = (i : ℕ) → get_or bytes i 0 < 256
@@ -50,23 +51,7 @@ Goes-then g h (Err faults.Short) y k l e next = tt
 Goes-then g h (Err (faults.Bad place)) y k l e next = ap (λ (z : Result _ FrameFault). z >>= l) e
 Goes-then g h (Err faults.Memory) y k l e next = ap (λ (z : Result _ FrameFault). z >>= l) e
 
--- by cases on a test
-pub cond_has : {A : Type 0} (P : A → Type 0) (b : Bool) (x y : A) → (b ≡ true → P x) → (b ≡ false → P y) → P (cond b x y)
-cond_has P true x y p q = p refl
-cond_has P false x y p q = q refl
-
-pub cond_true : {A : Type 0} (b : Bool) (x y : A) → b ≡ true → cond b x y ≡ x
-cond_true true x y e = refl
-cond_true false x y e = absurd cc
-
-pub cond_false : {A : Type 0} (b : Bool) (x y : A) → b ≡ false → cond b x y ≡ y
-cond_false true x y e = absurd cc
-cond_false false x y e = refl
-
 -- ---- readers
-
-abbrev pub stand : ℕ → ℕ → List ℕ → Rest
-stand place room bytes = record { place = place; room = room; bytes = bytes }
 
 -- with more bytes behind
 abbrev pub behind : List ℕ → Rest → Rest
@@ -94,6 +79,7 @@ Took-then a b r s t p q = record {
 pub record IsFormat {A : Type 0} (f : Format A) (most : ℕ) : Type 0 where
   pub takes : (r : Rest) → IsBytes r.bytes → On (λ x. (f.allows x.0 ≡ true) × Took (f.spell x.0) r x.1) (f.read r)
   pub onward : (r : Rest) → On (λ x. r.place ≤ x.1.place) (f.read r)
+  pub within : (r : Rest) → Within r (f.read r)
   pub again : (x : A) (place room : ℕ) (rest : List ℕ) → f.allows x ≡ true → length (f.spell x) ≤ room
       → f.read (stand place room (f.spell x ++ rest)) ≡ Ok (x, stand (place + length (f.spell x)) (room - length (f.spell x)) rest)
   pub more : (rest : List ℕ) (r : Rest) → Goes (with_behind rest) (f.read r) (f.read (behind rest r))
@@ -169,6 +155,7 @@ leaf_is n limit spell value allowed wide = record {
       (λ no. tt));
   onward = λ r. On-then (λ b. r.place ≤ b.1.place) (λ x. r.place ≤ x.1.place) (front n r) (λ b. checked (allowed (value b.0)) r.place (value b.0, b.1)) (front_onward n r)
       (λ b h. cond_has (On (λ x. r.place ≤ x.1.place)) (allowed (value b.0)) (Ok (value b.0, b.1)) (Err (faults.Bad r.place)) (λ yes. h) (λ no. tt));
+  within = λ r. Within-then r (front n r) (λ b. checked (allowed (value b.0)) r.place (value b.0, b.1)) (front_within n r) (λ b m. checked_within r b.1 (allowed (value b.0)) (value b.0) m);
   again = λ x place room rest h le.
       let parts = and_parts (ltb x limit) (allowed x) h in
       let len : length (spell x) ≡ n = wide.len x in
@@ -238,6 +225,7 @@ counted_is size most longest is limit = record {
       (λ b k. subst (λ (m : ℕ). (size.allows m ≡ true) × Took (size.spell m ++ b.0) r b.1) (sym k.0) (h.0, Took-then (size.spell n.0) b.0 r n.1 b.1 h.1 k.2)));
   onward = λ r. On-then (λ n. r.place ≤ n.1.place) (λ x. r.place ≤ x.1.place) (size.read r) (λ n. front n.0 n.1) (is.onward r)
       (λ n h. On-map (λ b. n.1.place ≤ b.1.place) (λ x. r.place ≤ x.1.place) (front n.0 n.1) (front_onward n.0 n.1) (λ b k. omega (arith, h, k)));
+  within = λ r. Within-then r (size.read r) (λ n. front n.0 n.1) (is.within r) (λ n m. front_within n.0 n.1);
   again = λ x place room rest h le.
       let s = size.spell (length x) in
       let len : length (s ++ x) ≡ length s + length x = length-append s x in
@@ -261,6 +249,7 @@ then_is {A} {B} f g m n p q = record {
       (λ y k. (and_from _ _ h.0 k.0, Took-then (f.spell x.0) (g.spell y.0) r x.1 y.1 h.1 k.1)));
   onward = λ r. On-then (λ x. r.place ≤ x.1.place) (λ z. r.place ≤ z.1.place) (f.read r) (λ x. g.read x.1 >>= λ y. Ok ((x.0, y.0), y.1)) (p.onward r)
       (λ x h. On-then (λ y. x.1.place ≤ y.1.place) (λ z. r.place ≤ z.1.place) (g.read x.1) (λ y. Ok ((x.0, y.0), y.1)) (q.onward x.1) (λ y k. omega (arith, h, k)));
+  within = λ r. Within-then r (f.read r) (λ x. g.read x.1 >>= λ y. Ok ((x.0, y.0), y.1)) (p.within r) (λ x m. Within-then x.1 (g.read x.1) (λ y. Ok ((x.0, y.0), y.1)) (q.within x.1) (λ y n. stayed y.1));
   again = λ x place room rest h le.
       let allowed = and_parts (f.allows x.0) (g.allows x.1) h in
       let s = f.spell x.0 in

@@ -8,7 +8,8 @@ use Rattle.op_frames.specs.declared.fault.FrameFault.{FrameFault}
 use Rattle.op_frames.specs.declared.fault.FrameFault.TheVariants as faults
 use Rattle.op_frames.specs.Format.{Rest, ◌>>=◌, Format, between, Gives}
 use Rattle.op_frames.specs.Frames.{length_field, frame_of, body_at, end_at, read_frame, StandsInFront}
-use Rattle.op_frames.proofs.Formats.{IsBytes, On, On-then, Goes, Goes-then, cond_has, stand, behind, with_behind, Took, IsFormat, number32_is}
+use Rattle.op_frames.proofs.Within.{cond_has, stand}
+use Rattle.op_frames.proofs.Formats.{IsBytes, On, On-then, Goes, Goes-then, behind, with_behind, Took, IsFormat, number32_is}
 
 length_is : IsFormat length_field 4
 unfolding length_field

@@ -1,3 +1,4 @@
+pub mod Within
 pub mod Formats
 pub mod Tagged
 pub mod Operations

@@ -1,9 +1,10 @@
 -- A byte that says which fields follow, and those fields.
-use Rattle.std.proofs.Common.{◌≡◌, ℕ, suc, ◌+◌, ◌-◌, ◌≤◌, Bool, true, false, ◌&&◌, ◌||◌, cond, eqb, ltb, List, [], ◌∷◌, ◌++◌, length, Result, Ok, refl, sym, ap, ap₂, subst, ◌∙◌, arith}
-use Rattle.std.proofs.lemmas.Bool.{eqb-true, and_parts}
+use Rattle.std.proofs.Common.{◌≡◌, ℕ, suc, ◌+◌, ◌-◌, ◌≤◌, Bool, true, false, ◌&&◌, ◌||◌, ◌⊎◌, cond, eqb, ltb, leb, List, [], ◌∷◌, ◌++◌, length, Result, Ok, refl, sym, ap, ap₂, subst, ◌∙◌, inl, inr, arith}
+use Rattle.std.proofs.lemmas.Bool.{eqb-true, eqb-false, eq-eqb, leb-true, leb-false, le-leb, and_parts, and_from}
 use Rattle.op_frames.specs.declared.fault.FrameFault.{FrameFault}
-use Rattle.op_frames.specs.Format.{Rest, ◌>>=◌, Format, byte, made}
-use Rattle.op_frames.proofs.Formats.{IsBytes, On, On-then, On-map, Goes, Goes-then, cond_has, stand, behind, with_behind, Took, Took-then, IsFormat, byte_is}
+use Rattle.op_frames.specs.Format.{Rest, ◌>>=◌, Format, byte, made, between}
+use Rattle.op_frames.proofs.Within.{cond_has, stand, Within, Within-then, stayed}
+use Rattle.op_frames.proofs.Formats.{IsBytes, On, On-then, On-map, Goes, Goes-then, behind, with_behind, Took, Took-then, IsFormat, byte_is}
 
 -- what is spelled by the code and the fields of f, which have at most limit bytes
 pub record IsCase {T A : Type 0} (limit : ℕ) (spell : T → List ℕ) (allows : T → Bool) (code : ℕ) (f : Format A) (make : A → T) : Type 0 where
@@ -24,6 +25,7 @@ pub record Behind {T : Type 0} (spell : T → List ℕ) (allows : T → Bool) (c
 pub record Reads {T : Type 0} (spell : T → List ℕ) (allows : T → Bool) (known : ℕ → Bool) (read : ℕ → Rest → Result (T × Rest) FrameFault) : Type 0 where
   pub takes : (code : ℕ) (r : Rest) → known code ≡ true → IsBytes r.bytes → On (Behind spell allows code r) (read code r)
   pub onward : (code : ℕ) (r : Rest) → On (λ x. r.place ≤ x.1.place) (read code r)
+  pub within : (code : ℕ) (r : Rest) → Within r (read code r)
   pub more : (code : ℕ) (rest : List ℕ) (r : Rest) → Goes (with_behind rest) (read code r) (read code (behind rest r))
 
 -- ---- one code
@@ -35,6 +37,9 @@ case_takes limit spell allows code f make case r fits =
 
 case_onward : {T A : Type 0} (f : Format A) (make : A → T) (most : ℕ) → IsFormat f most → (r : Rest) → On (λ (x : T × Rest). r.place ≤ x.1.place) (made make (f.read r))
 case_onward f make most is r = On-then (λ v. r.place ≤ v.1.place) (λ x. r.place ≤ x.1.place) (f.read r) (λ v. Ok (make v.0, v.1)) (is.onward r) (λ v h. h)
+
+case_within : {T A : Type 0} (f : Format A) (make : A → T) (most : ℕ) → IsFormat f most → (r : Rest) → Within r (made make (f.read r))
+case_within f make most is r = Within-then r (f.read r) (λ v. Ok (make v.0, v.1)) (is.within r) (λ v m. stayed v.1)
 
 case_more : {T A : Type 0} (f : Format A) (make : A → T) (most : ℕ) → IsFormat f most → (rest : List ℕ) (r : Rest) → Goes (with_behind rest) (made make (f.read r)) (made make (f.read (behind rest r)))
 case_more f make most is rest r = Goes-then (with_behind rest) (with_behind rest) (f.read r) (f.read (behind rest r)) (λ v. Ok (make v.0, v.1)) (λ v. Ok (make v.0, v.1)) (is.more rest r) (λ v. refl)
@@ -52,6 +57,7 @@ pub only_case : {T A : Type 0} {limit : ℕ} {spell : T → List ℕ} {allows : 
 only_case {T} {A} {limit} {spell} {allows} {code} {f} {make} case = record {
   takes = λ c r known fits. subst (λ (k : ℕ). On (Behind spell allows k r) (made make (f.read r))) (sym (eqb-true c code known)) (case_takes limit spell allows code f make case r fits);
   onward = λ c r. case_onward f make case.most case.format r;
+  within = λ c r. case_within f make case.most case.format r;
   more = λ c rest r. case_more f make case.most case.format rest r;
 }
 
@@ -63,15 +69,66 @@ or_case {T} {A} {limit} {spell} {allows} {code} {f} {make} {known} {read} case o
       (λ same. subst (λ (k : ℕ). On (Behind spell allows k r) (made make (f.read r))) (sym (eqb-true c code same)) (case_takes limit spell allows code f make case r fits))
       (λ other. others.takes c r (other_known (eqb c code) (known c) is_known other) fits);
   onward = λ c r. cond_has (On (λ x. r.place ≤ x.1.place)) (eqb c code) (made make (f.read r)) (read c r) (λ same. case_onward f make case.most case.format r) (λ other. others.onward c r);
+  within = λ c r. cond_has (Within r) (eqb c code) (made make (f.read r)) (read c r) (λ same. case_within f make case.most case.format r) (λ other. others.within c r);
   more = λ c rest r. cond_goes (with_behind rest) (eqb c code) (made make (f.read r)) (made make (f.read (behind rest r))) (read c r) (read c (behind rest r)) (case_more f make case.most case.format rest r) (others.more c rest r);
 }
 
--- the same codes, spelled otherwise
-pub known_as : {T : Type 0} {spell : T → List ℕ} {allows : T → Bool} {known also : ℕ → Bool} {read : ℕ → Rest → Result (T × Rest) FrameFault} → ((c : ℕ) → also c ≡ known c) → Reads spell allows known read → Reads spell allows also read
-known_as same reads = record {
-  takes = λ c r is_known fits. reads.takes c r (sym (same c) ∙ is_known) fits;
+-- fewer codes
+pub fewer_codes : {T : Type 0} {spell : T → List ℕ} {allows : T → Bool} {known also : ℕ → Bool} {read : ℕ → Rest → Result (T × Rest) FrameFault} → ((c : ℕ) → also c ≡ true → known c ≡ true) → Reads spell allows known read → Reads spell allows also read
+fewer_codes known_too reads = record {
+  takes = λ c r is_known fits. reads.takes c r (known_too c is_known) fits;
   onward = reads.onward;
+  within = reads.within;
   more = reads.more;
+}
+
+-- ---- codes in a row
+
+-- a code of a row is the first or lies above it
+above : (first c : ℕ) → first ≤ c → eqb c first ≡ false → suc first ≤ c
+above first c low other =
+    let apart : c ≡ first → ⊥ = eqb-false c first other in
+    omega (arith, low, apart)
+
+is_only_code : (code c : ℕ) → between code code c ≡ true → eqb c code ≡ true
+is_only_code code c h =
+    let parts = and_parts (leb code c) (leb c code) h in
+    let low : code ≤ c = leb-true code c parts.0 in
+    let high : c ≤ code = leb-true c code parts.1 in
+    eq-eqb c code (omega arith)
+
+either : (b : Bool) → (b ≡ true) ⊎ (b ≡ false)
+either true = inl refl
+either false = inr refl
+
+first_or_above : (first last c : ℕ) → between first last c ≡ true → (eqb c first || between (suc first) last c) ≡ true
+first_or_above first last c h =
+    let parts = and_parts (leb first c) (leb c last) h in
+    let low : first ≤ c = leb-true first c parts.0 in
+    let P : Bool → Type 0 = λ b. (b || between (suc first) last c) ≡ true in
+    elim (either (eqb c first)) [ inl same ↦ subst P (sym same) refl | inr other ↦ subst P (sym other) (and_from (leb (suc first) c) (leb c last) (le-leb (suc first) c (above first c low other)) parts.1) ]
+
+-- the last code of a row
+pub last_of_row : {T A : Type 0} {limit : ℕ} {spell : T → List ℕ} {allows : T → Bool} {code : ℕ} {f : Format A} {make : A → T} → IsCase limit spell allows code f make → Reads spell allows (between code code) (λ c r. made make (f.read r))
+last_of_row {T} {A} {limit} {spell} {allows} {code} case = fewer_codes (is_only_code code) (only_case case)
+
+-- the first code of a row, before the others
+pub first_of_row : {T A : Type 0} {limit : ℕ} {spell : T → List ℕ} {allows : T → Bool} {code : ℕ} {f : Format A} {make : A → T} (last : ℕ) {read : ℕ → Rest → Result (T × Rest) FrameFault} → IsCase limit spell allows code f make → Reads spell allows (between (suc code) last) read
+    → Reads spell allows (between code last) (λ c r. cond (eqb c code) (made make (f.read r)) (read c r))
+first_of_row {T} {A} {limit} {spell} {allows} {code} {f} {make} last case others = fewer_codes (first_or_above code last) (or_case case others)
+
+-- two rows, one behind the other
+pub rows : {T : Type 0} {spell : T → List ℕ} {allows : T → Bool} (first middle last : ℕ) {low high : ℕ → Rest → Result (T × Rest) FrameFault} → Reads spell allows (between first middle) low → Reads spell allows (between (suc middle) last) high
+    → Reads spell allows (between first last) (λ c r. cond (leb c middle) (low c r) (high c r))
+rows {T} {spell} {allows} first middle last {low} {high} p q = record {
+  takes = λ c r known fits.
+      let parts = and_parts (leb first c) (leb c last) known in
+      cond_has (On (Behind spell allows c r)) (leb c middle) (low c r) (high c r)
+      (λ is_low. p.takes c r (and_from (leb first c) (leb c middle) parts.0 is_low) fits)
+      (λ is_high. q.takes c r (and_from (leb (suc middle) c) (leb c last) (le-leb (suc middle) c (leb-false c middle is_high)) parts.1) fits);
+  onward = λ c r. cond_has (On (λ x. r.place ≤ x.1.place)) (leb c middle) (low c r) (high c r) (λ is_low. p.onward c r) (λ is_high. q.onward c r);
+  within = λ c r. cond_has (Within r) (leb c middle) (low c r) (high c r) (λ is_low. p.within c r) (λ is_high. q.within c r);
+  more = λ c rest r. cond_goes (with_behind rest) (leb c middle) (low c r) (low c (behind rest r)) (high c r) (high c (behind rest r)) (p.more c rest r) (q.more c rest r);
 }
 
 -- ---- the byte and the fields
@@ -115,6 +172,7 @@ tagged_is limit spell allows known read reads written = record {
       (λ x b. (b.allowed, subst (λ (t : List ℕ). Took t r x.1) (sym b.spelled) (Took-then (c.0 ∷ []) b.text r c.1 x.1 h.1 b.took))));
   onward = λ r. On-then (λ c. r.place ≤ c.1.place) (λ x. r.place ≤ x.1.place) ((byte known).read r) (λ c. read c.0 c.1) ((byte_is known).onward r)
       (λ c h. On-map (λ x. c.1.place ≤ x.1.place) (λ x. r.place ≤ x.1.place) (read c.0 c.1) (reads.onward c.0 c.1) (λ x k. omega (arith, h, k)));
+  within = λ r. Within-then r ((byte known).read r) (λ c. read c.0 c.1) ((byte_is known).within r) (λ c m. reads.within c.0 c.1);
   again = λ x place room rest h le. (written x).again place room rest h le;
   more = λ rest r. Goes-then (with_behind rest) (with_behind rest) ((byte known).read r) ((byte known).read (behind rest r)) (λ c. read c.0 c.1) (λ c. read c.0 c.1) ((byte_is known).more rest r) (λ c. reads.more c.0 rest c.1);
   bounded = λ x h. (written x).bounded h;

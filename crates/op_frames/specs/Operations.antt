@@ -1,5 +1,5 @@
 -- The operations, their codes and their fields in order.
-use Rattle.std.specs.Prelude.{ℕ, ◌-◌, ◌^◌, ◌==◌, List, ◌∷◌, Bool, true, [], ◌&&◌, ◌||◌, if◌then◌else◌, Result, Ok}
+use Rattle.std.specs.Prelude.{ℕ, ◌-◌, ◌^◌, ◌==◌, List, ◌∷◌, Bool, true, [], ◌||◌, nat_le, if◌then◌else◌, Result, Ok}
 use Rattle.std.specs.Int.{w16, w32, w64}
 use Rattle.op_frames.specs.declared.fault.FrameFault.{FrameFault}
 use Rattle.op_frames.specs.declared.operation.Op.{Op}
@@ -142,9 +142,9 @@ op_code (CacheSize _) = 31
 op_code Leave = 32
 op_code Unmount = 33
 
--- the codes of the operations that are read now
+-- the codes of the operations
 abbrev pub is_operation : ℕ → Bool
-is_operation code = code == 2 || code == 8 || code == 17 || code == 18
+is_operation code = between 1 33 code
 
 unfoldable pub operation_field : Format ℕ
 operation_field = byte is_operation
@@ -186,52 +186,97 @@ op_spelling Leave = 32 ∷ []
 op_spelling Unmount = 33 ∷ []
 
 -- its fields are within their rules
-abbrev pub has_allowed_fields : Op → Bool
-has_allowed_fields (Lookup parent name) = lookup_fields.allows (parent, name)
-has_allowed_fields (Getattr inode) = getattr_fields.allows inode
-has_allowed_fields (Chmod inode mode) = chmod_fields.allows (inode, mode)
-has_allowed_fields (Chown inode uid gid) = chown_fields.allows (inode, (uid, gid))
-has_allowed_fields (Utimes inode mtime) = utimes_fields.allows (inode, mtime)
-has_allowed_fields (Truncate inode size) = utimes_fields.allows (inode, size)
-has_allowed_fields (Mkdir parent name mode uid gid) = create_fields.allows (parent, (name, (mode, (uid, gid))))
-has_allowed_fields (Create parent name mode uid gid) = create_fields.allows (parent, (name, (mode, (uid, gid))))
-has_allowed_fields (Unlink parent name) = lookup_fields.allows (parent, name)
-has_allowed_fields (Rmdir parent name) = lookup_fields.allows (parent, name)
-has_allowed_fields (Rename parent name new_parent new_name) = rename_fields.allows (parent, (name, (new_parent, new_name)))
-has_allowed_fields (Link inode parent name) = link_fields.allows (inode, (parent, name))
-has_allowed_fields (Symlink parent name target uid gid) = symlink_fields.allows (parent, (name, (target, (uid, gid))))
-has_allowed_fields (Readlink inode) = getattr_fields.allows inode
-has_allowed_fields (Open inode) = getattr_fields.allows inode
-has_allowed_fields (Release handle) = getattr_fields.allows handle
-has_allowed_fields (Read handle offset length) = read_fields.allows (handle, (offset, length))
-has_allowed_fields (Write handle offset bytes) = write_fields.allows (handle, (offset, bytes))
-has_allowed_fields (Fsync handle) = getattr_fields.allows handle
-has_allowed_fields (Readdir inode after max) = readdir_fields.allows (inode, (after, max))
-has_allowed_fields Statfs = true
-has_allowed_fields (Setxattr inode name flag value) = setxattr_fields.allows (inode, (name, (flag, value)))
-has_allowed_fields (Getxattr inode name) = lookup_fields.allows (inode, name)
-has_allowed_fields (Listxattr inode after max) = readdir_fields.allows (inode, (after, max))
-has_allowed_fields (Removexattr inode name) = lookup_fields.allows (inode, name)
-has_allowed_fields (CopyTree source parent name) = link_fields.allows (source, (parent, name))
-has_allowed_fields (LockTree inode) = getattr_fields.allows inode
-has_allowed_fields (RemoveTree parent name) = lookup_fields.allows (parent, name)
-has_allowed_fields FlushCache = true
-has_allowed_fields UploadMeta = true
-has_allowed_fields (CacheSize entries) = cache_size_fields.allows entries
-has_allowed_fields Leave = true
-has_allowed_fields Unmount = true
-
--- it is read now, and its fields are within their rules
 abbrev pub is_op : Op → Bool
-is_op op = is_operation (op_code op) && has_allowed_fields op
+is_op (Lookup parent name) = lookup_fields.allows (parent, name)
+is_op (Getattr inode) = getattr_fields.allows inode
+is_op (Chmod inode mode) = chmod_fields.allows (inode, mode)
+is_op (Chown inode uid gid) = chown_fields.allows (inode, (uid, gid))
+is_op (Utimes inode mtime) = utimes_fields.allows (inode, mtime)
+is_op (Truncate inode size) = utimes_fields.allows (inode, size)
+is_op (Mkdir parent name mode uid gid) = create_fields.allows (parent, (name, (mode, (uid, gid))))
+is_op (Create parent name mode uid gid) = create_fields.allows (parent, (name, (mode, (uid, gid))))
+is_op (Unlink parent name) = lookup_fields.allows (parent, name)
+is_op (Rmdir parent name) = lookup_fields.allows (parent, name)
+is_op (Rename parent name new_parent new_name) = rename_fields.allows (parent, (name, (new_parent, new_name)))
+is_op (Link inode parent name) = link_fields.allows (inode, (parent, name))
+is_op (Symlink parent name target uid gid) = symlink_fields.allows (parent, (name, (target, (uid, gid))))
+is_op (Readlink inode) = getattr_fields.allows inode
+is_op (Open inode) = getattr_fields.allows inode
+is_op (Release handle) = getattr_fields.allows handle
+is_op (Read handle offset length) = read_fields.allows (handle, (offset, length))
+is_op (Write handle offset bytes) = write_fields.allows (handle, (offset, bytes))
+is_op (Fsync handle) = getattr_fields.allows handle
+is_op (Readdir inode after max) = readdir_fields.allows (inode, (after, max))
+is_op Statfs = true
+is_op (Setxattr inode name flag value) = setxattr_fields.allows (inode, (name, (flag, value)))
+is_op (Getxattr inode name) = lookup_fields.allows (inode, name)
+is_op (Listxattr inode after max) = readdir_fields.allows (inode, (after, max))
+is_op (Removexattr inode name) = lookup_fields.allows (inode, name)
+is_op (CopyTree source parent name) = link_fields.allows (source, (parent, name))
+is_op (LockTree inode) = getattr_fields.allows inode
+is_op (RemoveTree parent name) = lookup_fields.allows (parent, name)
+is_op FlushCache = true
+is_op UploadMeta = true
+is_op (CacheSize entries) = cache_size_fields.allows entries
+is_op Leave = true
+is_op Unmount = true
 
--- the fields behind a code that is read now
+-- the fields behind a code from 1 to 8
+unfoldable pub op_to_8 : ℕ → Rest → Result (Op × Rest) FrameFault
+op_to_8 code r =
+    if code == 1 then made (λ x. Lookup x.0 x.1) (lookup_fields.read r)
+    else (if code == 2 then made Getattr (getattr_fields.read r)
+    else (if code == 3 then made (λ x. Chmod x.0 x.1) (chmod_fields.read r)
+    else (if code == 4 then made (λ x. Chown x.0 x.1.0 x.1.1) (chown_fields.read r)
+    else (if code == 5 then made (λ x. Utimes x.0 x.1) (utimes_fields.read r)
+    else (if code == 6 then made (λ x. Truncate x.0 x.1) (utimes_fields.read r)
+    else (if code == 7 then made (λ x. Mkdir x.0 x.1.0 x.1.1.0 x.1.1.1.0 x.1.1.1.1) (create_fields.read r)
+    else made (λ x. Create x.0 x.1.0 x.1.1.0 x.1.1.1.0 x.1.1.1.1) (create_fields.read r)))))))
+
+-- from 9 to 16
+unfoldable pub op_to_16 : ℕ → Rest → Result (Op × Rest) FrameFault
+op_to_16 code r =
+    if code == 9 then made (λ x. Unlink x.0 x.1) (lookup_fields.read r)
+    else (if code == 10 then made (λ x. Rmdir x.0 x.1) (lookup_fields.read r)
+    else (if code == 11 then made (λ x. Rename x.0 x.1.0 x.1.1.0 x.1.1.1) (rename_fields.read r)
+    else (if code == 12 then made (λ x. Link x.0 x.1.0 x.1.1) (link_fields.read r)
+    else (if code == 13 then made (λ x. Symlink x.0 x.1.0 x.1.1.0 x.1.1.1.0 x.1.1.1.1) (symlink_fields.read r)
+    else (if code == 14 then made Readlink (getattr_fields.read r)
+    else (if code == 15 then made Open (getattr_fields.read r)
+    else made Release (getattr_fields.read r)))))))
+
+-- from 17 to 24
+unfoldable pub op_to_24 : ℕ → Rest → Result (Op × Rest) FrameFault
+op_to_24 code r =
+    if code == 17 then made (λ x. Read x.0 x.1.0 x.1.1) (read_fields.read r)
+    else (if code == 18 then made (λ x. Write x.0 x.1.0 x.1.1) (write_fields.read r)
+    else (if code == 19 then made Fsync (getattr_fields.read r)
+    else (if code == 20 then made (λ x. Readdir x.0 x.1.0 x.1.1) (readdir_fields.read r)
+    else (if code == 21 then Ok (Statfs, r)
+    else (if code == 22 then made (λ x. Setxattr x.0 x.1.0 x.1.1.0 x.1.1.1) (setxattr_fields.read r)
+    else (if code == 23 then made (λ x. Getxattr x.0 x.1) (lookup_fields.read r)
+    else made (λ x. Listxattr x.0 x.1.0 x.1.1) (readdir_fields.read r)))))))
+
+-- from 25 to 33
+unfoldable pub op_to_33 : ℕ → Rest → Result (Op × Rest) FrameFault
+op_to_33 code r =
+    if code == 25 then made (λ x. Removexattr x.0 x.1) (lookup_fields.read r)
+    else (if code == 26 then made (λ x. CopyTree x.0 x.1.0 x.1.1) (link_fields.read r)
+    else (if code == 27 then made LockTree (getattr_fields.read r)
+    else (if code == 28 then made (λ x. RemoveTree x.0 x.1) (lookup_fields.read r)
+    else (if code == 29 then Ok (FlushCache, r)
+    else (if code == 30 then Ok (UploadMeta, r)
+    else (if code == 31 then made CacheSize (cache_size_fields.read r)
+    else (if code == 32 then Ok (Leave, r)
+    else Ok (Unmount, r))))))))
+
+-- the fields behind the code of an operation
 unfoldable pub op_behind : ℕ → Rest → Result (Op × Rest) FrameFault
 op_behind code r =
-    if code == 2 then made Getattr (getattr_fields.read r)
-    else (if code == 8 then made (λ x. Create x.0 x.1.0 x.1.1.0 x.1.1.1.0 x.1.1.1.1) (create_fields.read r)
-    else (if code == 17 then made (λ x. Read x.0 x.1.0 x.1.1) (read_fields.read r)
-    else made (λ x. Write x.0 x.1.0 x.1.1) (write_fields.read r)))
+    if nat_le code 8 then op_to_8 code r
+    else (if nat_le code 16 then op_to_16 code r
+    else (if nat_le code 24 then op_to_24 code r
+    else op_to_33 code r))
 
 unfoldable pub op_field : Format Op
 op_field = record {

@@ -2,97 +2,17 @@
 ghost use Rattle.std.specs.Prelude.{◌≡◌, ◌+◌, ◌++◌, ◌≤◌, List, ℕ, length, take, IsTrue, IfOk, Ok};
 ghost use Rattle.op_frames.specs.declared.operation.Op.{Op};
 ghost use Rattle.op_frames.specs.declared.operation.Step.{Step};
-ghost use Rattle.op_frames.specs.declared.operation.Op.TheVariants.{Create, Read, Write};
 ghost use Rattle.op_frames.specs.declared.operation.Step.TheVariants.{Call};
 ghost use Rattle.op_frames.specs.Format.{Gives, made};
-ghost use Rattle.op_frames.specs.Operations.{create_fields, read_fields, write_fields, call_fields, op_behind, op_field, step_behind, step_field, is_op, is_step};
+ghost use Rattle.op_frames.specs.Operations.{call_fields, op_field, step_behind, step_field, is_op, is_step};
 ghost use Rattle.op_frames.specs.Frames.{body_at, end_at, frame_of, read_frame, EndsInside, StandsInFront};
 ghost use Rattle.op_frames.specs.Replay.{Replays};
 ghost use Rattle.op_frames.specs.Unread.{rest_of};
 
+use crate::codes::op_of;
 use crate::fields::{self, Unread};
 use crate::{FrameFault, Op, Step};
 use std::alloc::Global;
-
-fn create_of(alloc: Global, unread: Unread<'_>) -> Result<(Op, Unread<'_>), FrameFault>
-    ensures { Gives (λ x. (x.0, rest_of x.1)) result (made (λ x. Create x.0 x.1.0 x.1.1.0 x.1.1.1.0 x.1.1.1.1) (create_fields.read (rest_of unread.entry))) }
-{
-    let (parent, unread) = fields::u64_of(unread)?;
-    let (name, unread) = fields::name_of(alloc, unread)?;
-    let (mode, unread) = fields::u16_of(unread)?;
-    let (uid, unread) = fields::u32_of(unread)?;
-    let (gid, unread) = fields::u32_of(unread)?;
-    Ok((
-        Op::Create {
-            parent,
-            name,
-            mode,
-            uid,
-            gid,
-        },
-        unread,
-    ))
-}
-
-fn read_of(unread: Unread<'_>) -> Result<(Op, Unread<'_>), FrameFault>
-    ensures { Gives (λ x. (x.0, rest_of x.1)) result (made (λ x. Read x.0 x.1.0 x.1.1) (read_fields.read (rest_of unread.entry))) }
-{
-    let (handle, unread) = fields::u64_of(unread)?;
-    let (offset, unread) = fields::u64_of(unread)?;
-    let (length, unread) = fields::u32_of(unread)?;
-    Ok((
-        Op::Read {
-            handle,
-            offset,
-            length,
-        },
-        unread,
-    ))
-}
-
-fn write_of(alloc: Global, unread: Unread<'_>) -> Result<(Op, Unread<'_>), FrameFault>
-    ensures { Gives (λ x. (x.0, rest_of x.1)) result (made (λ x. Write x.0 x.1.0 x.1.1) (write_fields.read (rest_of unread.entry))) }
-{
-    let (handle, unread) = fields::u64_of(unread)?;
-    let (offset, unread) = fields::u64_of(unread)?;
-    let (bytes, unread) = fields::data_of(alloc, unread)?;
-    Ok((
-        Op::Write {
-            handle,
-            offset,
-            bytes,
-        },
-        unread,
-    ))
-}
-
-/// The fields behind the code of an operation.
-#[tactic(auto, unfolding(crate::specs::Operations::op_behind))]
-fn op_behind_code(
-    alloc: Global,
-    code: u8,
-    unread: Unread<'_>,
-) -> Result<(Op, Unread<'_>), FrameFault>
-    ensures { Gives (λ x. (x.0, rest_of x.1)) result (op_behind code (rest_of unread.entry)) }
-{
-    match code {
-        2 => {
-            let (inode, unread) = fields::u64_of(unread)?;
-            Ok((Op::Getattr { inode }, unread))
-        }
-        8 => create_of(alloc, unread),
-        17 => read_of(unread),
-        _ => write_of(alloc, unread),
-    }
-}
-
-#[tactic(auto, unfolding(crate::specs::Operations::op_field))]
-fn op_of(alloc: Global, unread: Unread<'_>) -> Result<(Op, Unread<'_>), FrameFault>
-    ensures { Gives (λ x. (x.0, rest_of x.1)) result (op_field.read (rest_of unread.entry)) }
-{
-    let (code, unread) = fields::operation_of(unread)?;
-    op_behind_code(alloc, code, unread)
-}
 
 fn call_of(alloc: Global, unread: Unread<'_>) -> Result<(Step, Unread<'_>), FrameFault>
     ensures { Gives (λ x. (x.0, rest_of x.1)) result (made (λ x. Call x.0 x.1.0 x.1.1) (call_fields.read (rest_of unread.entry))) }

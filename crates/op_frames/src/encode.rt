@@ -1,13 +1,14 @@
 //! Frames of replies and of a replay's answers.
 ghost use Rattle.std.specs.Prelude.{◌≡◌, ◌++◌, ◌<◌, ◌≤◌, ◌^◌, [], ◌∷◌, length, IsTrue, IfOk, OnOk};
 ghost use Rattle.std.specs.List.{list_all};
+ghost use Rattle.op_frames.specs.declared.reply.Reply.TheVariants as replies;
 ghost use Rattle.op_frames.specs.Operations.{u16_field, u32_field, u64_field, name_field, data_field};
 ghost use Rattle.op_frames.specs.Frames.{framed};
 ghost use Rattle.op_frames.specs.Answers.{kind_code, cause_code, flag_code, attr_spelling, names_spelling, entry_spelling, entries_spelling, reply_spelling, is_short_name, has_short_name, has_short_data, reply_frame, answer_frame, bad_input_frame};
 
 use crate::{Attr, Cause, DirEntry, DirEntryList, NameList, Reply};
 use byteorder::{BigEndian, ByteOrder};
-use s3_base::{ByteList, Kind};
+use s3_base::{ByteList, Errno, Kind};
 use std::alloc::{AllocError, Global};
 
 /// The tag of a replay's answer that holds a reply.
@@ -131,6 +132,51 @@ fn put_entries(out: &mut ByteList, entries: &DirEntryList) -> Result<(), AllocEr
     Ok(())
 }
 
+fn put_opened(out: &mut ByteList, handle: u64, attr: &Attr) -> Result<(), AllocError>
+    ensures { OnOk result (out.new ≡ out.old ++ reply_spelling (replies.Opened handle attr.now)) }
+{
+    out.push(3)?;
+    put_u64(out, handle)?;
+    put_attr(out, attr)
+}
+
+fn put_count(out: &mut ByteList, count: u32) -> Result<(), AllocError>
+    ensures { OnOk result (out.new ≡ out.old ++ reply_spelling (replies.Count count)) }
+{
+    out.push(5)?;
+    put_u32(out, count)
+}
+
+fn put_stat(
+    out: &mut ByteList,
+    block_size: u32,
+    inodes: u64,
+    entries: u64,
+    bytes: u64,
+) -> Result<(), AllocError>
+    ensures { OnOk result (out.new ≡ out.old ++ reply_spelling (replies.Stat block_size inodes entries bytes)) }
+{
+    out.push(8)?;
+    put_u32(out, block_size)?;
+    put_u64(out, inodes)?;
+    put_u64(out, entries)?;
+    put_u64(out, bytes)
+}
+
+fn put_errno(out: &mut ByteList, errno: Errno) -> Result<(), AllocError>
+    ensures { OnOk result (out.new ≡ out.old ++ reply_spelling (replies.Errno errno)) }
+{
+    out.push(9)?;
+    put_u16(out, errno.0)
+}
+
+fn put_cause(out: &mut ByteList, cause: Cause) -> Result<(), AllocError>
+    ensures { OnOk result (out.new ≡ out.old ++ reply_spelling (replies.Fault cause)) }
+{
+    out.push(10)?;
+    out.push(code_of_cause(cause))
+}
+
 fn put_reply(out: &mut ByteList, reply: &Reply) -> Result<(), AllocError>
     requires { IsTrue (has_short_data reply.now) }
     ensures { OnOk result (out.new ≡ out.old ++ reply_spelling reply.now) }
@@ -141,19 +187,12 @@ fn put_reply(out: &mut ByteList, reply: &Reply) -> Result<(), AllocError>
             out.push(2)?;
             put_attr(out, attr)
         }
-        Reply::Opened { handle, attr } => {
-            out.push(3)?;
-            put_u64(out, *handle)?;
-            put_attr(out, attr)
-        }
+        Reply::Opened { handle, attr } => put_opened(out, *handle, attr),
         Reply::Bytes(bytes) => {
             out.push(4)?;
             put_data(out, bytes)
         }
-        Reply::Count(count) => {
-            out.push(5)?;
-            put_u32(out, *count)
-        }
+        Reply::Count(count) => put_count(out, *count),
         Reply::Entries(entries) => {
             out.push(6)?;
             put_entries(out, entries)
@@ -167,21 +206,9 @@ fn put_reply(out: &mut ByteList, reply: &Reply) -> Result<(), AllocError>
             inodes,
             entries,
             bytes,
-        } => {
-            out.push(8)?;
-            put_u32(out, *block_size)?;
-            put_u64(out, *inodes)?;
-            put_u64(out, *entries)?;
-            put_u64(out, *bytes)
-        }
-        Reply::Errno(errno) => {
-            out.push(9)?;
-            put_u16(out, errno.0)
-        }
-        Reply::Fault(cause) => {
-            out.push(10)?;
-            out.push(code_of_cause(*cause))
-        }
+        } => put_stat(out, *block_size, *inodes, *entries, *bytes),
+        Reply::Errno(errno) => put_errno(out, *errno),
+        Reply::Fault(cause) => put_cause(out, *cause),
     }
 }
 

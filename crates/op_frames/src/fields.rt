@@ -2,11 +2,11 @@
 ghost use Rattle.std.specs.Prelude.{◌≡◌, ◌-◌, ◌<◌, ◌≤◌, ◌^◌, length, IfOk};
 ghost use Rattle.std.specs.Int.{w32, w64, from_be_bytes};
 ghost use Rattle.op_frames.specs.Format.{Gives, front, byte, number, always, between};
-ghost use Rattle.op_frames.specs.Operations.{u16_field, u32_field, u64_field, name_field, data_length_field, data_field, pass_field, time_field, operation_field, kind_field};
+ghost use Rattle.op_frames.specs.Operations.{u16_field, u32_field, u64_field, name_field, data_length_field, data_field, pass_field, time_field, set_flag_field, operation_field, kind_field};
 ghost use Rattle.op_frames.specs.Frames.{length_field};
 ghost use Rattle.op_frames.specs.Unread.{rest_of};
 
-use crate::FrameFault;
+use crate::{FrameFault, SetFlag};
 use s3_base::ByteList;
 use std::alloc::Global;
 
@@ -168,13 +168,26 @@ pub fn data_of(alloc: Global, unread: Unread<'_>) -> Result<(ByteList, Unread<'_
     Ok((ByteList::from_slice(alloc, bytes)?, unread))
 }
 
+#[tactic(auto, unfolding(crate::specs::Operations::set_flag_field))]
+pub fn set_flag_of(unread: Unread<'_>) -> Result<(SetFlag, Unread<'_>), FrameFault>
+    ensures { Gives (λ x. (x.0, rest_of x.1)) result (set_flag_field.read (rest_of unread.entry)) }
+{
+    let (code, after) = byte_of(unread)?;
+    match code {
+        0 => Ok((SetFlag::Any, after)),
+        1 => Ok((SetFlag::New, after)),
+        2 => Ok((SetFlag::Old, after)),
+        _ => Err(FrameFault::Bad(unread.place)),
+    }
+}
+
 #[tactic(auto, unfolding(crate::specs::Operations::operation_field))]
 pub fn operation_of(unread: Unread<'_>) -> Result<(u8, Unread<'_>), FrameFault>
     ensures { Gives (λ x. (x.0, rest_of x.1)) result (operation_field.read (rest_of unread.entry)) }
 {
     let (code, after) = byte_of(unread)?;
     match code {
-        2 | 8 | 17 | 18 => Ok((code, after)),
+        1..=33 => Ok((code, after)),
         _ => Err(FrameFault::Bad(unread.place)),
     }
 }

@@ -1,6 +1,7 @@
 //! Frames of operations, replies and calls: one spelling for each value, and the first fault of any bytes.
 #![tactic(auto)]
 
+mod codes;
 mod decode;
 mod encode;
 mod fault;
@@ -9,6 +10,7 @@ mod laws;
 mod lists;
 mod operation;
 mod reply;
+mod shapes;
 
 pub use decode::{decode_call, decode_op};
 pub use encode::{encode_answer, encode_bad_input, encode_reply};

@@ -14,6 +14,12 @@ const READ: &[u8] =
     b"\x00\x00\x00\x26\x01\x00\x00\x00\x00\x00\x00\x00\x01\x00\x00\x00\x00\x00\x00\x00\x07\x11\x00\x00\x00\x00\x00\x00\x00\x01\x00\x00\x00\x00\x00\x00\x00\x00\x00\x00\x00\x0a";
 // The attributes of inode 3, as a caller of a server asks for them.
 const GETATTR: &[u8] = b"\x00\x00\x00\x09\x02\x00\x00\x00\x00\x00\x00\x00\x03";
+// Rename `a` in inode 1 to `bc` in inode 2.
+const RENAME: &[u8] =
+    b"\x00\x00\x00\x18\x0b\x00\x00\x00\x00\x00\x00\x00\x01\x00\x01\x61\x00\x00\x00\x00\x00\x00\x00\x02\x00\x02\x62\x63";
+// Set the new attribute `k` of inode 3 to `v`.
+const SETXATTR: &[u8] =
+    b"\x00\x00\x00\x12\x16\x00\x00\x00\x00\x00\x00\x00\x03\x00\x01\x6b\x01\x00\x00\x00\x01\x76";
 
 fn is_create(step: &Step) -> bool {
     match step {
@@ -103,14 +109,76 @@ fn calls(rt: HostRuntime) -> Result<(), Fail> {
     for (bytes, call, length) in calls {
         assert_eq!(rt; call_in_front(rt.alloc(), bytes), Some((call, length)));
     }
-    let (op, length) = decode_op(rt.alloc(), GETATTR).ok().ok_or("an operation")?;
-    assert_eq!(rt; length, 13);
-    assert!(rt; matches!(&op, Op::Getattr { inode: 3 }));
     Ok(())
 }
 
+fn is_getattr(op: &Op) -> bool {
+    matches!(op, Op::Getattr { inode: 3 })
+}
+
+fn is_rename(op: &Op) -> bool {
+    match op {
+        Op::Rename {
+            parent: 1,
+            name,
+            new_parent: 2,
+            new_name,
+        } => { name.as_slice() == b"a".as_slice() && new_name.as_slice() == b"bc".as_slice() }
+        _ => false,
+    }
+}
+
+fn is_setxattr(op: &Op) -> bool {
+    match op {
+        Op::Setxattr {
+            inode: 3,
+            name,
+            flag: SetFlag::New,
+            value,
+        } => name.as_slice() == b"k".as_slice() && value.as_slice() == b"v".as_slice(),
+        _ => false,
+    }
+}
+
+fn is_statfs(op: &Op) -> bool {
+    matches!(op, Op::Statfs)
+}
+
+/// How long the frame in front is, if its operation is the one that is looked for.
+fn length_of(alloc: Global, bytes: &[u8], looked_for: Looked) -> Option<usize> {
+    let (op, length) = decode_op(alloc, bytes).ok()?;
+    let is = match looked_for {
+        Looked::Getattr => is_getattr(&op),
+        Looked::Rename => is_rename(&op),
+        Looked::Setxattr => is_setxattr(&op),
+        Looked::Statfs => is_statfs(&op),
+    };
+    is.then_some(length)
+}
+
+#[derive(Clone, Copy, Debug)]
+enum Looked {
+    Getattr,
+    Rename,
+    Setxattr,
+    Statfs,
+}
+
 #[test]
-fn replies(rt: HostRuntime) -> Result<(), Fail> {
+fn operations(rt: HostRuntime) {
+    let ops: [(&[u8], Looked, usize); 4] = [
+        (GETATTR, Looked::Getattr, 13),
+        (RENAME, Looked::Rename, 28),
+        (SETXATTR, Looked::Setxattr, 22),
+        (b"\x00\x00\x00\x01\x15\xff", Looked::Statfs, 5),
+    ];
+    for (bytes, op, length) in ops {
+        assert_eq!(rt; length_of(rt.alloc(), bytes, op), Some(length), "{op:?}");
+    }
+}
+
+#[test]
+fn opened(rt: HostRuntime) -> Result<(), Fail> {
     let attr = Attr {
         inode: 3,
         kind: Kind::Regular,
@@ -128,6 +196,11 @@ fn replies(rt: HostRuntime) -> Result<(), Fail> {
         opened.as_slice(),
         b"\x00\x00\x00\x3e\x01\x03\x00\x00\x00\x00\x00\x00\x00\x01\x00\x00\x00\x00\x00\x00\x00\x03\x02\x01\xa4\x00\x00\x00\x00\x00\x00\x00\x00\x00\x00\x00\x00\x00\x00\x00\x01\x00\x00\x00\x00\x00\x00\x00\x00\x00\x00\x00\x00\x00\x00\x00\x05\x00\x00\x00\x00\x00\x00\x00\x05\x00".as_slice()
     );
+    Ok(())
+}
+
+#[test]
+fn replies(rt: HostRuntime) -> Result<(), Fail> {
     let count = encode_answer(rt.alloc(), &Reply::Count(3))?;
     assert_eq!(rt;
         count.as_slice(),
@@ -153,6 +226,11 @@ fn replies(rt: HostRuntime) -> Result<(), Fail> {
     );
     let done = encode_answer(rt.alloc(), &Reply::Done)?;
     assert_eq!(rt; done.as_slice(), b"\x00\x00\x00\x02\x01\x01".as_slice());
+    Ok(())
+}
+
+#[test]
+fn long_numbers(rt: HostRuntime) -> Result<(), Fail> {
     // 1 + 1 + 4 + 8 + 8 + 8 bytes.
     let stat = encode_answer(
         rt.alloc(),
@@ -198,10 +276,11 @@ fn lists(rt: HostRuntime) -> Result<(), Fail> {
     Ok(())
 }
 
-// Each place is worked out by hand, from the fields' sizes.
+// Each place in the tests below is worked out by hand, from the fields' sizes.
+
 #[test]
-fn faults(rt: HostRuntime) {
-    let calls: [(&[u8], FrameFault); 16] = [
+fn lengths_and_kinds(rt: HostRuntime) {
+    let calls: [(&[u8], FrameFault); 6] = [
         // no bytes
         (b"", FrameFault::Short),
         // three of the length's four
@@ -212,6 +291,21 @@ fn faults(rt: HostRuntime) {
         (b"\x00\x04\x00\x01", FrameFault::Bad(0)),
         // a kind of step that is none
         (b"\x00\x00\x00\x01\x07", FrameFault::Bad(4)),
+        // the longest length, and no pass yet
+        (b"\x00\x04\x00\x00\x01", FrameFault::Short),
+    ];
+    for (bytes, fault) in calls {
+        assert_eq!(rt;
+            decode_call(rt.alloc(), bytes).err(),
+            Some(fault),
+            "{bytes:?}"
+        );
+    }
+}
+
+#[test]
+fn passes_and_times(rt: HostRuntime) {
+    let calls: [(&[u8], FrameFault); 4] = [
         // pass 0
         (
             b"\x00\x00\x00\x27\x01\x00\x00\x00\x00\x00\x00\x00\x00",
@@ -232,6 +326,19 @@ fn faults(rt: HostRuntime) {
             b"\x00\x00\x00\x0a\x01\x00\x00\x00\x00\x00\x00\x00\x01",
             FrameFault::Bad(13),
         ),
+    ];
+    for (bytes, fault) in calls {
+        assert_eq!(rt;
+            decode_call(rt.alloc(), bytes).err(),
+            Some(fault),
+            "{bytes:?}"
+        );
+    }
+}
+
+#[test]
+fn codes_and_lists(rt: HostRuntime) {
+    let calls: [(&[u8], FrameFault); 4] = [
         // a code that is none: 4 + 1 + 8 + 8
         (
             b"\x00\x00\x00\x12\x01\x00\x00\x00\x00\x00\x00\x00\x01\x00\x00\x00\x00\x00\x00\x00\x05\xee",
@@ -247,17 +354,11 @@ fn faults(rt: HostRuntime) {
             b"\x00\x00\x00\x29\x01\x00\x00\x00\x00\x00\x00\x00\x01\x00\x00\x00\x00\x00\x00\x00\x06\x12\x00\x00\x00\x00\x00\x00\x00\x01\x00\x00\x00\x00\x00\x00\x00\x00\x00\x02\x00\x01",
             FrameFault::Bad(38),
         ),
-        // a byte after the end's one field
-        (b"\x00\x00\x00\x02\x12\x00", FrameFault::Bad(5)),
-        // the same, with the byte missing
-        (b"\x00\x00\x00\x02\x12", FrameFault::Bad(5)),
         // a call without its last byte
         (
             b"\x00\x00\x00\x27\x01\x00\x00\x00\x00\x00\x00\x00\x01\x00\x00\x00\x00\x00\x00\x00\x05\x08\x00\x00\x00\x00\x00\x00\x00\x01\x00\x01\x61\x01\xa4\x00\x00\x00\x00\x00\x00\x00",
             FrameFault::Short,
         ),
-        // the longest length, and no pass yet
-        (b"\x00\x04\x00\x00\x01", FrameFault::Short),
     ];
     for (bytes, fault) in calls {
         assert_eq!(rt;
@@ -266,7 +367,44 @@ fn faults(rt: HostRuntime) {
             "{bytes:?}"
         );
     }
-    let ops: [(&[u8], FrameFault); 4] = [
+}
+
+#[test]
+fn bytes_left_over(rt: HostRuntime) {
+    let calls: [(&[u8], FrameFault); 2] = [
+        // a byte after the end's one field
+        (b"\x00\x00\x00\x02\x12\x00", FrameFault::Bad(5)),
+        // the same, with the byte missing
+        (b"\x00\x00\x00\x02\x12", FrameFault::Bad(5)),
+    ];
+    for (bytes, fault) in calls {
+        assert_eq!(rt;
+            decode_call(rt.alloc(), bytes).err(),
+            Some(fault),
+            "{bytes:?}"
+        );
+    }
+    let ops: [(&[u8], FrameFault); 2] = [
+        // a byte after the inode, which is missing
+        (
+            b"\x00\x00\x00\x0a\x02\x00\x00\x00\x00\x00\x00\x00\x01",
+            FrameFault::Bad(13),
+        ),
+        // a byte after a Statfs, which has no fields
+        (b"\x00\x00\x00\x02\x15\x00", FrameFault::Bad(5)),
+    ];
+    for (bytes, fault) in ops {
+        assert_eq!(rt;
+            decode_op(rt.alloc(), bytes).err(),
+            Some(fault),
+            "{bytes:?}"
+        );
+    }
+}
+
+#[test]
+fn fields_of_operations(rt: HostRuntime) {
+    let ops: [(&[u8], FrameFault); 7] = [
         // the inode does not fit
         (b"\x00\x00\x00\x05\x02\x00\x00\x00\x00", FrameFault::Bad(5)),
         // an inode that is cut
@@ -274,13 +412,21 @@ fn faults(rt: HostRuntime) {
             b"\x00\x00\x00\x09\x02\x00\x00\x00\x00\x00\x00\x00",
             FrameFault::Short,
         ),
-        // a byte after the inode, which is missing
+        // a code without its parent
+        (b"\x00\x00\x00\x01\x01", FrameFault::Bad(5)),
+        // codes that are none: 0 and 34
+        (b"\x00\x00\x00\x01\x00", FrameFault::Bad(4)),
+        (b"\x00\x00\x00\x01\x22", FrameFault::Bad(4)),
+        // a flag of 3: 4 + 1 + 8 + 2 + 1
         (
-            b"\x00\x00\x00\x0a\x02\x00\x00\x00\x00\x00\x00\x00\x01",
-            FrameFault::Bad(13),
+            b"\x00\x00\x00\x12\x16\x00\x00\x00\x00\x00\x00\x00\x03\x00\x01\x6b\x03\x00\x00\x00\x01\x76",
+            FrameFault::Bad(16),
         ),
-        // a code that is none
-        (b"\x00\x00\x00\x01\x01", FrameFault::Bad(4)),
+        // a Rename without its last byte
+        (
+            b"\x00\x00\x00\x18\x0b\x00\x00\x00\x00\x00\x00\x00\x01\x00\x01\x61\x00\x00\x00\x00\x00\x00\x00\x02\x00\x02\x62",
+            FrameFault::Short,
+        ),
     ];
     for (bytes, fault) in ops {
         assert_eq!(rt;

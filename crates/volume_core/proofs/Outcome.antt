@@ -1,5 +1,5 @@
 -- How a call ends, and trees that are the same.
-use Rattle.std.proofs.Common.{◌≡◌, ℕ, ◌-◌, ◌≤◌, List, length, Result, Ok, Err, refl, sym, ap, inl, Option, None, Some, ◌∙◌, arith}
+use Rattle.std.proofs.Common.{◌≡◌, ℕ, ◌-◌, ◌≤◌, ◌⊎◌, Bool, true, false, cond, List, length, Result, Ok, Err, refl, sym, ap, inl, inr, ⊎_elim, Option, None, Some, ◌∙◌, arith}
 use Rattle.std.proofs.lemmas.Bool.Decides.{nat_tests}
 use Rattle.std.specs.BTreeMap.{is_at}
 use Rattle.std.specs.Map.{remove_entry}
@@ -11,11 +11,13 @@ use Rattle.op_frames.specs.declared.operation.Op.{Op}
 use Rattle.op_frames.specs.declared.operation.Op.TheVariants.{Write}
 use Rattle.op_frames.specs.declared.reply.Reply.{Reply}
 use Rattle.op_frames.specs.declared.reply.Reply.TheVariants as replies
-use Rattle.plain_tree.specs.Calls.{IsAnswer}
+use Rattle.op_frames.specs.Replay.{Request}
+use Rattle.plain_tree.specs.Calls.{IsAnswer, no_memory}
 use Rattle.plain_tree.specs.Checks.{first_failure}
 use Rattle.plain_tree.specs.Operations.{checks, effect, success, reply_to, tree_after}
 use Rattle.s3_base.specs.declared.errors.Errno.{Errno}
-use Rattle.volume_core.specs.Refusals.{IsOutcome}
+use Rattle.volume_core.specs.Built.{is_built, not_built, IsCoreAnswer}
+use Rattle.volume_core.specs.Refusals.{IsOutcome, IsUnbuilt}
 use Rattle.volume_core.specs.declared.refusal.Refusal.TheVariants.{Refused}
 use Rattle.plain_tree.specs.Tree as tree
 use Rattle.plain_tree.specs.Tree.{Tree, with_node, with_handle}
@@ -65,13 +67,34 @@ tree_at : (t : Tree) (pass now : ℕ) (op : Op) (failure : Option ℕ) → first
 unfolding tree_after
 tree_at t pass now op failure is = ap (λ f. elim f as (λ _. Tree) [ Some errno ↦ t | None ↦ effect t pass op now ]) is
 
--- an outcome as an answer
-pub answered : (t : Tree) (pass now : ℕ) (op : Op) (reply : Reply) (after : Tree)
+-- an outcome as an answer by the rules
+answered : (t : Tree) (pass now : ℕ) (op : Op) (reply : Reply) (after : Tree)
     → IsOutcome t pass op now (Ok reply) after → IsAnswer t (record { pass = pass; now = now; op = op }) reply after
 answered t pass now op reply after outcome =
     inl (outcome.1 ∙ sym (reply_at t pass now op None outcome.0), outcome.2 ∙ sym (tree_at t pass now op None outcome.0))
 
-pub refused : (t : Tree) (pass now : ℕ) (op : Op) (errno : Errno) (after : Tree)
+refused : (t : Tree) (pass now : ℕ) (op : Op) (errno : Errno) (after : Tree)
     → IsOutcome t pass op now (Err (Refused errno)) after → IsAnswer t (record { pass = pass; now = now; op = op }) (replies.Errno errno) after
 refused t pass now op errno after outcome =
     inl (sym (reply_at t pass now op (Some errno.0) outcome.0), outcome.1 ∙ sym (tree_at t pass now op (Some errno.0) outcome.0))
+
+-- by whether the operation is built
+by_built : (b : Bool) (t after by_rules : Tree) (reply rules : Reply) → (b ≡ true → ((reply ≡ rules) × (after ≡ by_rules)) ⊎ ((reply ≡ no_memory) × (after ≡ t))) → (b ≡ false → (reply ≡ not_built) × (after ≡ t))
+    → ((reply ≡ cond b rules not_built) × (after ≡ cond b by_rules t)) ⊎ (IsTrue b × (reply ≡ no_memory) × (after ≡ t))
+by_built true t after by_rules reply rules built_gives other_gives = ⊎_elim (λ p. inl p) (λ q. inr (refl, q.0, q.1)) (built_gives refl)
+by_built false t after by_rules reply rules built_gives other_gives = inl (other_gives refl)
+
+core_answer : (t : Tree) (call : Request) (reply : Reply) (after : Tree) → (is_built call.op ≡ true → IsAnswer t call reply after) → (is_built call.op ≡ false → (reply ≡ not_built) × (after ≡ t)) → IsCoreAnswer t call reply after
+core_answer t call reply after built_gives other_gives = by_built (is_built call.op) t after (tree_after t call.pass call.op call.now) reply (reply_to t call.pass call.op call.now) built_gives other_gives
+
+-- an outcome as an answer of the core
+pub core_answered : (t : Tree) (pass now : ℕ) (op : Op) (reply : Reply) (after : Tree)
+    → (IsTrue (is_built op) → IsOutcome t pass op now (Ok reply) after) → (is_built op ≡ false → IsUnbuilt t (Ok reply) after) → IsCoreAnswer t (record { pass = pass; now = now; op = op }) reply after
+core_answered t pass now op reply after built_gives other_gives =
+    core_answer t (record { pass = pass; now = now; op = op }) reply after (λ built. answered t pass now op reply after (built_gives built)) (λ unbuilt. absurd (other_gives unbuilt))
+
+pub core_refused : (t : Tree) (pass now : ℕ) (op : Op) (errno : Errno) (after : Tree)
+    → (IsTrue (is_built op) → IsOutcome t pass op now (Err (Refused errno)) after) → (is_built op ≡ false → IsUnbuilt t (Err (Refused errno)) after) → IsCoreAnswer t (record { pass = pass; now = now; op = op }) (replies.Errno errno) after
+core_refused t pass now op errno after built_gives other_gives =
+    core_answer t (record { pass = pass; now = now; op = op }) (replies.Errno errno) after (λ built. refused t pass now op errno after (built_gives built))
+    (λ unbuilt. let ends = other_gives unbuilt in (ap (λ (n : ℕ). replies.Errno (record { 0 = n })) ends.0, ends.1))

@@ -1,3 +1,4 @@
+pub mod Built
 pub mod Core
 pub mod Node
 pub mod Refusals

@@ -21,3 +21,9 @@ IsOutcome t pass op now (Ok reply) after =
     (first_failure (checks t pass op) ≡ None) × (reply ≡ success t pass op now) × (after ≡ effect t pass op now)
 IsOutcome t pass op now (Err (Refused errno)) after = (first_failure (checks t pass op) ≡ Some errno.0) × (after ≡ t)
 IsOutcome t pass op now (Err Memory) after = after ≡ t
+
+-- how a call of an operation that is not built ends: refused with ENOSYS, and the tree is as before
+abbrev pub IsUnbuilt : Tree → Result Reply Refusal → Tree → Type 0
+IsUnbuilt t (Ok reply) after = ⊥
+IsUnbuilt t (Err (Refused errno)) after = (errno.0 ≡ 38) × (after ≡ t)
+IsUnbuilt t (Err Memory) after = ⊥

@@ -24,6 +24,8 @@ pub const ENOSPC: Errno = Errno(28);
 
 pub const ENAMETOOLONG: Errno = Errno(36);
 
+pub const ENOSYS: Errno = Errno(38);
+
 /// The longest name, in bytes.
 const MAX_NAME: usize = 255;
 

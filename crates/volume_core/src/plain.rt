@@ -1,5 +1,5 @@
 //! The plain tree, kept as it is.
-ghost use Rattle.std.specs.Prelude.{◌≡◌, ◌+◌, ◌<◌, ◌≤◌, ◌^◌, ◌⊎◌, [], ◌∷◌, ◌++◌, ℕ, length, IsTrue, IfOk, IfErr, OnOk, OnErr, Some};
+ghost use Rattle.std.specs.Prelude.{◌≡◌, ◌+◌, ◌<◌, ◌≤◌, ◌^◌, ◌⊎◌, [], ◌∷◌, ◌++◌, ℕ, length, false, IsTrue, IfOk, IfErr, OnOk, OnErr, Some};
 ghost use Rattle.op_frames.specs.declared.operation.Op.TheVariants.{Getattr, Create, Read, Write};
 ghost use Rattle.op_frames.specs.Operations.{is_op};
 ghost use Rattle.op_frames.specs.Answers.{has_short_data};
@@ -11,11 +11,11 @@ ghost use Rattle.plain_tree.specs.Files.{open_file, inode_of, read_at, written_a
 ghost use Rattle.plain_tree.specs.Checks.{first_failure, node_check, open_check, hand_check};
 ghost use Rattle.plain_tree.specs.Operations as operations;
 ghost use Rattle.plain_tree.specs.Operations.{make_checks, with_new_file};
-ghost use Rattle.plain_tree.specs.Calls.{IsAnswer};
-ghost use Rattle.volume_core.specs.Refusals.{Checks, IsOutcome};
+ghost use Rattle.volume_core.specs.Built.{is_built, IsCoreAnswer};
+ghost use Rattle.volume_core.specs.Refusals.{Checks, IsOutcome, IsUnbuilt};
 ghost use Rattle.volume_core.specs.Sound.{AllBelow};
 
-use crate::checks::{self, EBADF, ENOENT, ENOSPC, LIMIT};
+use crate::checks::{self, EBADF, ENOENT, ENOSPC, ENOSYS, LIMIT};
 use crate::node::Node;
 use crate::refusal::Refusal;
 use op_frames::{Attr, Cause, Op, Reply};
@@ -93,11 +93,12 @@ impl PlainCore {
         })
     }
 
-    /// The reply to an operation of a pass at the time `now`, in nanoseconds.
+    /// The reply to an operation of a pass at the time `now`, in nanoseconds. One that is not built is answered ENOSYS.
     pub fn answer(&mut self, pass: u64, op: &Op, now: u64) -> Reply
         requires { IsTrue (is_op op.now) }
-        // The reply is that of the plain tree, or there is no memory and nothing changes.
-        ensures answer { IsAnswer self.old (record { pass = pass; now = now; op = op.now }) result self.new }
+        // An operation that is built gets the reply of the plain tree, or there is no memory and nothing changes. Each
+        // other one gets ENOSYS, and nothing changes.
+        ensures answer { IsCoreAnswer self.old (record { pass = pass; now = now; op = op.now }) result self.new }
         ensures short { IsTrue (has_short_data result) }
     {
         match self.carry_out(pass, op, now) {
@@ -109,7 +110,8 @@ impl PlainCore {
 
     fn carry_out(&mut self, pass: u64, op: &Op, now: u64) -> Result<Reply, Refusal>
         requires { IsTrue (is_op op.now) }
-        ensures outcome { IsOutcome self.old pass op.now now result self.new }
+        ensures built { IsTrue (is_built op.now) → IsOutcome self.old pass op.now now result self.new }
+        ensures unbuilt { is_built op.now ≡ false → IsUnbuilt self.old result self.new }
         ensures short { IfOk result (λ reply. IsTrue (has_short_data reply)) }
     {
         match op {
@@ -135,8 +137,7 @@ impl PlainCore {
                 offset,
                 bytes,
             } => self.write(pass, *handle, *offset, bytes, now),
-            // No other operation is within the rules of its fields yet.
-            _ => unreachable!(),
+            _ => Err(Refusal::Refused(ENOSYS)),
         }
     }
 

@@ -22,7 +22,12 @@ enum Ask<'a> {
     Read(u64, u64, u32),
     /// The handle, the offset and the data.
     Write(u64, u64, &'a [u8]),
+    /// An operation that is not built.
+    Leave,
 }
+
+/// A pass, what it asks, and the reply that must come.
+type Row = (u64, Ask<'static>, Want<'static>);
 
 /// The reply that must come.
 #[derive(Clone, Copy, Debug)]
@@ -42,6 +47,7 @@ fn op(alloc: Global, ask: Ask) -> Result<Op, Fail>
         Ask::Create(parent, name, mode) => create(alloc, parent, name, mode),
         Ask::Read(handle, offset, length) => Ok(read(handle, offset, length)),
         Ask::Write(handle, offset, bytes) => write(alloc, handle, offset, bytes),
+        Ask::Leave => Ok(Op::Leave),
     }
 }
 
@@ -118,11 +124,9 @@ fn attr(inode: u64, kind: Kind, mode: u16, size: u64, time: u64) -> Attr {
     }
 }
 
-#[test]
-fn create_write_read(rt: HostRuntime) -> Result<(), Fail> {
-    let alloc = rt.alloc();
-    let mut core = PlainCore::new(alloc, 4096, 0)?;
-    let calls = [
+/// The made tree, and a file across two blocks.
+fn made_and_written() -> [Row; 10] {
+    [
         // the made tree
         (
             1,
@@ -151,6 +155,12 @@ fn create_write_read(rt: HostRuntime) -> Result<(), Fail> {
         (1, Ask::Read(1, 4093, 4), Want::Bytes(b"\x00hel")),
         (1, Ask::Read(1, 0, 2), Want::Bytes(b"\x00\x00")),
         (1, Ask::Read(1, 4099, 5), Want::Bytes(b"")),
+    ]
+}
+
+/// Reads that are refused, and names, modes and parents.
+fn refused() -> [Row; 13] {
+    [
         // reads that are refused
         (2, Ask::Read(1, 0, 2), Want::Errno(9)),
         (1, Ask::Read(1, 0, 131_073), Want::Errno(22)),
@@ -170,20 +180,47 @@ fn create_write_read(rt: HostRuntime) -> Result<(), Fail> {
         (1, Ask::Create(1, b"b", 0o10000), Want::Errno(22)),
         (1, Ask::Create(9, b"b", 0o644), Want::Errno(2)),
         (1, Ask::Create(3, b"b", 0o644), Want::Errno(20)),
+    ]
+}
+
+/// The ends of writes, an operation that is not built, and what has stayed.
+fn last() -> [Row; 5] {
+    [
         // ends of writes
         (1, Ask::Write(1, u64::MAX, b""), Want::Count(0)),
         (1, Ask::Write(1, (1 << 50) - 1, b"ab"), Want::Errno(27)),
-        // nothing of this has changed the first file
+        // an operation that is not built
+        (1, Ask::Leave, Want::Errno(38)),
+        // nothing of this has changed the first file, and its handle is still the pass's
         (
             1,
             Ask::Getattr(3),
             Want::Attr(attr(3, Kind::Regular, 0o644, 4099, 5)),
         ),
-    ];
-    for (pass, ask, want) in calls {
-        let op = op(alloc, ask)?;
-        let reply = core.answer(pass, &op, 5);
-        assert!(rt; is_wanted(&reply, &want), "{ask:?} gives {reply:?}");
+        (1, Ask::Read(1, 4094, 5), Want::Bytes(b"hello")),
+    ]
+}
+
+/// The number of the first row whose reply is not the one that must come.
+fn first_wrong(alloc: Global, core: &mut PlainCore, rows: &[Row]) -> Result<Option<usize>, Fail> {
+    for (number, (pass, ask, want)) in rows.iter().enumerate() {
+        let op = op(alloc, *ask)?;
+        let reply = core.answer(*pass, &op, 5);
+        if !is_wanted(&reply, want) {
+            return Ok(Some(number));
+        }
     }
+    Ok(None)
+}
+
+#[test]
+fn create_write_read(rt: HostRuntime) -> Result<(), Fail> {
+    let mut core = PlainCore::new(rt.alloc(), 4096, 0)?;
+    assert_eq!(rt;
+        first_wrong(rt.alloc(), &mut core, &made_and_written())?,
+        None
+    );
+    assert_eq!(rt; first_wrong(rt.alloc(), &mut core, &refused())?, None);
+    assert_eq!(rt; first_wrong(rt.alloc(), &mut core, &last())?, None);
     Ok(())
 }

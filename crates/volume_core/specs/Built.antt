@@ -1,0 +1,41 @@
+-- Which operations the core has, and what it answers. When an operation is built, its code goes into `is_built`.
+use Rattle.std.specs.Prelude.{◌≡◌, ◌⊎◌, ℕ, ◌==◌, ◌||◌, List, [], ◌∷◌, Bool, IsTrue, if◌then◌else◌}
+use Rattle.op_frames.specs.declared.operation.Op.{Op}
+use Rattle.op_frames.specs.declared.reply.Reply.{Reply}
+use Rattle.op_frames.specs.declared.reply.Reply.TheVariants as replies
+use Rattle.op_frames.specs.Operations.{op_code}
+use Rattle.op_frames.specs.Replay.{Request}
+use Rattle.plain_tree.specs.Tree.{Tree}
+use Rattle.plain_tree.specs.Operations.{reply_to, tree_after}
+use Rattle.plain_tree.specs.Calls.{no_memory}
+
+-- the codes of the operations that are built: Getattr, Create, Read and Write
+abbrev pub is_built_code : ℕ → Bool
+is_built_code code = code == 2 || code == 8 || code == 17 || code == 18
+
+abbrev pub is_built : Op → Bool
+is_built op = is_built_code (op_code op)
+
+-- the reply to an operation that is not built: ENOSYS
+abbrev pub not_built : Reply
+not_built = replies.Errno (record { 0 = 38 })
+
+-- The reply to a call: that of the plain tree's rules, or ENOSYS before every check where the operation is not built.
+abbrev pub core_reply : Tree → Request → Reply
+core_reply t call = if is_built call.op then reply_to t call.pass call.op call.now else not_built
+
+-- the tree after it: an operation that is not built changes nothing
+abbrev pub core_tree : Tree → Request → Tree
+core_tree t call = if is_built call.op then tree_after t call.pass call.op call.now else t
+
+-- Reply and tree are these; or memory ran out at an operation that is built, and the tree is as before.
+abbrev pub IsCoreAnswer : Tree → Request → Reply → Tree → Type 0
+IsCoreAnswer t call reply after =
+    ((reply ≡ core_reply t call) × (after ≡ core_tree t call)) ⊎ (IsTrue (is_built call.op) × (reply ≡ no_memory) × (after ≡ t))
+
+-- Each reply is the core's to the tree that the calls before it left.
+abbrev pub CoreAnswers : Tree → List Request → List Reply → Type 0
+CoreAnswers t [] [] = Unit {0}
+CoreAnswers t (call ∷ calls) (reply ∷ others) = (after : Tree) × IsCoreAnswer t call reply after × CoreAnswers after calls others
+CoreAnswers t [] (reply ∷ others) = ⊥
+CoreAnswers t (call ∷ calls) [] = ⊥
