@@ -16,6 +16,8 @@ pub mod Locked
 pub mod Lookups
 pub mod Losing
 pub mod Moved
+pub mod MovedOnce
+pub mod MovedShape
 pub mod MovedTrees
 pub mod Moving
 pub mod Named

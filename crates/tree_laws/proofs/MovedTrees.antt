@@ -1,40 +1,54 @@
--- Renames in the trees that calls lead to.
-use Rattle.std.proofs.Common.{◌≡◌, ◌≢◌, ℕ, zero, suc, List, [], ◌∷◌, ◌++◌, Some, refl, sym, ap, ◌∙◌, subst}
+-- Renames in one tree of names, and in the trees that calls lead to.
+use Rattle.std.proofs.Common.{◌≡◌, ◌≢◌, ℕ, zero, suc, List, [], ◌∷◌, ◌++◌, Bool, true, false, cond, Option, None, Some, refl, sym, ap, ◌∙◌, inl, inr, subst}
 use Rattle.op_frames.specs.declared.operation.Op.TheVariants as ops
 use Rattle.op_frames.specs.declared.reply.Reply.TheVariants as replies
 use Rattle.op_frames.specs.Replay.{Request}
+use Rattle.s3_base.specs.declared.node_kind.Kind.TheVariants as kinds
 use Rattle.plain_tree.specs.Calls.{tree_after_all}
+use Rattle.plain_tree.specs.Checks.{first_failure, name_check}
 use Rattle.plain_tree.specs.Entries.{entry_at}
-use Rattle.plain_tree.specs.Operations.{reply_to, tree_after}
-use Rattle.plain_tree.specs.Tree.{Tree, root, made_tree}
-use Rattle.plain_tree.specs.WellFormed.{HasOneTree}
+use Rattle.plain_tree.specs.Operations.{checks, reply_to, tree_after, HandlesBelow}
+use Rattle.plain_tree.specs.Subtrees.{is_same, moved_entry}
+use Rattle.plain_tree.specs.Tree.{Tree, root, made_tree, node_at}
+use Rattle.plain_tree.specs.WellFormed.{HasOneTree, HasNoOrphans}
+use Rattle.plain_tree.proofs.Replies.{tree_at}
+use Rattle.tree_laws.specs.Names.{NamesInOrder}
+use Rattle.tree_laws.specs.Numbers.{InOrder}
 use Rattle.tree_laws.specs.Renames.{IsRenamed}
-use Rattle.tree_laws.proofs.Lasting.{reached_sound, named_there, one_tree}
-use Rattle.tree_laws.proofs.Moved.{IsPlain, renamed_done}
-use Rattle.tree_laws.proofs.Shape.{Shape, Leads, Grown, NoneGoes}
-use Rattle.tree_laws.proofs.Standing.{Sound}
-use Rattle.tree_laws.proofs.TreeShape.{shape_of}
+use Rattle.tree_laws.proofs.Alone.{renamed_to_itself}
+use Rattle.tree_laws.proofs.Lasting.{reached_sound, one_tree}
+use Rattle.tree_laws.proofs.Moved.{IsPlain, renamed_if, renamed_done}
+use Rattle.tree_laws.proofs.MovedShape.{holds_kind, root_unnamed, one_place, way_up, grown_of, tree_of}
+use Rattle.tree_laws.proofs.Passing.{all_pass}
+use Rattle.tree_laws.proofs.Shape.{Leads, cases_place, not_there}
+use Rattle.tree_laws.proofs.Sounding.{sound_after}
+use Rattle.tree_laws.proofs.TreeShape.{kind_in}
 
 -- the way up from a directory that has itself never ends
-no_way_up : (v : Shape) → Grown NoneGoes v → (q : ℕ) (m : List ℕ) → v.entry q m ≡ Some q → (steps y : ℕ) → y ≡ q → Leads v.entry steps y → ⊥
-no_way_up v grown q m names zero y same leads = grown.top q m (names ∙ ap Some (sym same ∙ leads))
-no_way_up v grown q m names (suc steps) y same leads =
-    let up : leads.0 ≡ q = (grown.once q leads.0 q m leads.1 (grown.holds q q m names) names (leads.2 ∙ ap Some same)).0 in
-    no_way_up v grown q m names steps leads.0 up leads.3
+no_way_up : (t : Tree) → HasOneTree t → (q : ℕ) (m : List ℕ) → entry_at t q m ≡ Some q → (steps y : ℕ) → y ≡ q → Leads (entry_at t) steps y → ⊥
+no_way_up t tree q m names zero y same leads = root_unnamed t tree q m (names ∙ ap Some (sym same ∙ leads))
+no_way_up t tree q m names (suc steps) y same leads =
+    let up : leads.0 ≡ q = (one_place t tree q leads.0 q m leads.1 (holds_kind (node_at t q) m q names) names (leads.2 ∙ ap Some same)).0 in
+    no_way_up t tree q m names steps leads.0 up leads.3
 
-not_own : (v : Shape) → Grown NoneGoes v → (p x : ℕ) (n : List ℕ) → v.entry p n ≡ Some x → x ≢ p
-not_own v grown p x n names same =
-    let own : v.entry p n ≡ Some p = names ∙ ap Some same in
-    let way = grown.leads p (λ none. none) (grown.holds p x n names) in
-    no_way_up v grown p n own way.0 p refl way.1
+not_own : (t : Tree) → HasOneTree t → (p x : ℕ) (n : List ℕ) → entry_at t p n ≡ Some x → x ≢ p
+not_own t tree p x n names same =
+    let way = way_up t tree p (holds_kind (node_at t p) n x names) in
+    no_way_up t tree p n (names ∙ ap Some same) way.0 p refl way.1
 
-plain_of : (t : Tree) → Sound t → IsPlain t
-plain_of t sound = record {
-  ordered = sound.ordered;
-  names = sound.names;
-  there = λ p x n is. named_there t sound p x n is;
-  apart = λ p x n is. not_own (shape_of t) sound.grown p x n is;
+plain_of : (t : Tree) → InOrder t → NamesInOrder t → HasOneTree t → IsPlain t
+plain_of t ordered names tree = record {
+  ordered = ordered;
+  names = names;
+  there = λ p x n is. tree.entries p x n is;
+  apart = λ p x n is. not_own t tree p x n is;
 }
+
+pub renamed_one : (t : Tree) (pass now p np : ℕ) (n nn : List ℕ) → InOrder t → NamesInOrder t → HasOneTree t → reply_to t pass (ops.Rename p n np nn) now ≡ replies.Done
+    → (entry_at t np nn ≡ entry_at t p n → ⊥) → IsRenamed p n np nn now t (tree_after t pass (ops.Rename p n np nn) now)
+renamed_one t pass now p np n nn ordered names tree done apart = renamed_done t pass p np now n nn (plain_of t ordered names tree) done apart
+
+-- ---- the trees that calls lead to
 
 one_more : (t : Tree) (calls : List Request) (call : Request) → tree_after_all t (calls ++ call ∷ []) ≡ tree_after (tree_after_all t calls) call.pass call.op call.now
 one_more t [] call = refl
@@ -46,7 +60,8 @@ pub reached_renamed : (block_size time : ℕ) (calls : List Request) (t : Tree) 
 reached_renamed block_size time calls t pass now p np n nn is done apart =
     let call : Request = record { pass = pass; now = now; op = ops.Rename p n np nn } in
     let same : tree_after_all (made_tree block_size time) (calls ++ call ∷ []) ≡ tree_after t pass (ops.Rename p n np nn) now =
-    one_more (made_tree block_size time) calls call ∙ ap (λ (tree : Tree). tree_after tree pass (ops.Rename p n np nn) now) (sym is) in (
-      renamed_done t pass p np now n nn (plain_of t (subst Sound (sym is) (reached_sound block_size time calls))) done apart,
-      subst HasOneTree same (one_tree block_size time (calls ++ call ∷ [])),
-    )
+    one_more (made_tree block_size time) calls call ∙ ap (λ (tree : Tree). tree_after tree pass (ops.Rename p n np nn) now) (sym is) in
+    let ordered : InOrder t = subst InOrder (sym is) (reached_sound block_size time calls).ordered in
+    let names : NamesInOrder t = subst NamesInOrder (sym is) (reached_sound block_size time calls).names in
+    let tree : HasOneTree t = subst HasOneTree (sym is) (one_tree block_size time calls) in
+    (renamed_one t pass now p np n nn ordered names tree done apart, subst HasOneTree same (one_tree block_size time (calls ++ call ∷ [])))
