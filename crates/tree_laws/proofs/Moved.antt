@@ -1,5 +1,5 @@
 -- What a rename that is done leaves behind.
-use Rattle.std.proofs.Common.{◌≡◌, ◌≢◌, ℕ, List, [], Bool, true, false, cond, Option, None, Some, IsSome, refl, sym, ap, ◌∙◌, ◌⊎◌, inl, inr, subst}
+use Rattle.std.proofs.Common.{◌≡◌, ◌≢◌, ℕ, List, [], Bool, true, false, cond, Option, None, Some, IsSome, refl, sym, ap, ◌∙◌, inl, inr, subst}
 use Rattle.std.specs.Prelude.{◌==◌, ◌&&◌, option_and_then}
 use Rattle.std.specs.Option.{option_map}
 use Rattle.std.proofs.lemmas.Bool.{eqb-true, eq-eqb}
@@ -7,21 +7,22 @@ use Rattle.op_frames.specs.declared.operation.Op.{Op}
 use Rattle.op_frames.specs.declared.operation.Op.TheVariants as ops
 use Rattle.op_frames.specs.declared.reply.Reply.TheVariants as replies
 use Rattle.s3_base.specs.declared.node_kind.Kind.TheVariants as kinds
-use Rattle.plain_tree.specs.Attributes.{kind_of}
 use Rattle.plain_tree.specs.Below.{is_among, at_and_below, is_at_or_below}
 use Rattle.plain_tree.specs.Checks.{first_failure, entry_check}
-use Rattle.plain_tree.specs.Entries.{is_folder, entry_at, lives, settled}
-use Rattle.plain_tree.specs.Operations.{checks, effect, reply_to, tree_after, move_checks}
+use Rattle.plain_tree.specs.Entries.{is_folder, entry_at, settled}
+use Rattle.plain_tree.specs.Operations.{checks, reply_to, tree_after, move_checks}
 use Rattle.plain_tree.specs.Subtrees.{is_same, dropped, moved_entry}
 use Rattle.plain_tree.specs.Tree.{Node, Tree, node_at, change_node, stamped}
 use Rattle.plain_tree.proofs.Replies.{reply_at, tree_at}
 use Rattle.tree_laws.specs.Names.{NamesInOrder}
 use Rattle.tree_laws.specs.Numbers.{InOrder}
-use Rattle.tree_laws.specs.Renames.{IsRenamed, IsStamped, IsTouched, HasLostName}
+use Rattle.tree_laws.specs.Renames.{IsRenamed, HasLostName}
 use Rattle.tree_laws.proofs.Bools.{left_false}
 use Rattle.tree_laws.proofs.Gaining.{Moves}
 use Rattle.tree_laws.proofs.Losing.{none_some}
 use Rattle.tree_laws.proofs.Moving.{SameFrame, moved_to, move_shape, ordered_moved, names_moved, frame_moved, moved_other, moved_itself, moved_parents, touched_on, Settles, settles, settled_entry, is_stamped}
+use Rattle.tree_laws.proofs.Named as names_by
+use Rattle.tree_laws.proofs.Ordered as numbers_by
 use Rattle.tree_laws.proofs.Passing.{AllPass, all_pass, not_failed}
 use Rattle.tree_laws.proofs.Renaming.{is_a_folder}
 use Rattle.tree_laws.proofs.Shape.{IsPlace, one_entry, not_there}
@@ -81,6 +82,8 @@ to_new_name t p np x now n nn plain names free folder new_folder outside =
       next_inode = frame.next_inode;
       next_handle = frame.next_handle;
       block_size = frame.block_size;
+      ordered = ordered_moved t p np x now n nn plain.ordered;
+      names = names_moved t p np x now n nn plain.names;
     }
 
 lost_name : (r now : ℕ) (t four after : Tree) → IsSome (node_at t r) → node_at four r ≡ node_at t r → Settles r now four after → HasLostName r now t after
@@ -102,7 +105,9 @@ over_another t p np x r now n nn plain names replaced folder new_folder outside 
     let differs : IsPlace np nn p n → ⊥ = λ same. apart (one_entry (entry_at t) np nn p n r x same replaced names) in
     let moves : Moves (shape_of t) (shape_of four) p n np nn x = move_shape t p np x now n nn plain.names new_folder differs in
     let frame : SameFrame t four = frame_moved t p np x now n nn in
-    let ends : Settles r now four after = settles r now four (ordered_moved t p np x now n nn plain.ordered) (names_moved t p np x now n nn plain.names) in
+    let four_ordered : InOrder four = ordered_moved t p np x now n nn plain.ordered in
+    let four_names : NamesInOrder four = names_moved t p np x now n nn plain.names in
+    let ends : Settles r now four after = settles r now four four_ordered four_names in
     let same : node_at four r ≡ node_at t r = moved_other t p np x now r n nn (λ is. apart (sym is)) no_parent no_new_parent in
     let entry : (q : ℕ) (m : List ℕ) → entry_at after q m ≡ entry_at four q m = settled_entry r now four after ends (λ m. ap (entry_in m) same ∙ empty m) in
     record {
@@ -124,6 +129,8 @@ over_another t p np x r now n nn plain names replaced folder new_folder outside 
       next_inode = ends.frame.next_inode ∙ frame.next_inode;
       next_handle = ends.frame.next_handle ∙ frame.next_handle;
       block_size = ends.frame.block_size ∙ frame.block_size;
+      ordered = numbers_by.settle r (change_node r (stamped now) four) (numbers_by.change (stamped now) r four four_ordered);
+      names = names_by.settle r (change_node r (stamped now) four) (names_by.stamp now r four four_names);
     }
 
 differ_if : (r x : ℕ) → (r == x) ≡ false → x ≢ r

@@ -1,6 +1,6 @@
 -- Where an inode is named once, two entries that name it are one.
-use Rattle.std.proofs.Common.{◌≡◌, ◌≢◌, ℕ, zero, suc, ◌+◌, ◌≤◌, List, [], ◌∷◌, Bool, true, false, cond, Option, None, Some, refl, sym, ap, ◌∙◌, inl, inr, subst, arith}
-use Rattle.std.specs.Prelude.{◌==◌, sum_by, count_by}
+use Rattle.std.proofs.Common.{◌≡◌, ◌≢◌, ℕ, ◌+◌, ◌≤◌, List, [], ◌∷◌, Bool, true, false, cond, Option, None, Some, refl, sym, ap, ◌∙◌, inl, inr, arith}
+use Rattle.std.specs.Prelude.{◌==◌, sum_by}
 use Rattle.std.specs.BTreeMap.{is_at}
 use Rattle.std.specs.Cmp.Lexicographic.{slice_cmp}
 use Rattle.std.specs.Map.{lookup}
@@ -9,13 +9,12 @@ use Rattle.std.specs.declared.cmp.Ordering.{Ordering}
 use Rattle.std.proofs.lemmas.Bool.{cases_eq, eq-eqb}
 use Rattle.std.proofs.lemmas.List.Sums.{sum_by-cons}
 use Rattle.plain_tree.specs.Attributes.{names_in}
-use Rattle.plain_tree.specs.Entries.{is_directory, is_folder, entry_at, is_named}
-use Rattle.plain_tree.specs.Tree.{Content, Regular, Directory, Link, Node, Tree, root, node_at, entry_of}
-use Rattle.plain_tree.specs.WellFormed.{entries_naming, LeadsToRoot, HasOneTree}
-use Rattle.tree_laws.proofs.Losing.{none_some}
+use Rattle.plain_tree.specs.Entries.{entry_at}
+use Rattle.plain_tree.specs.Tree.{Content, Regular, Directory, Link, Node, Tree, node_at, entry_of}
+use Rattle.plain_tree.specs.WellFormed.{entries_naming}
 use Rattle.tree_laws.proofs.Lookups.{Tells, numbers_tell, names_tell}
 use Rattle.tree_laws.proofs.Shape.{cases_name}
-use Rattle.tree_laws.proofs.TreeShape.{entry_in, is_named_by}
+use Rattle.tree_laws.proofs.TreeShape.{entry_in}
 
 -- ---- sums over what look-ups find
 

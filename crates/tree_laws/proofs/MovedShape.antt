@@ -1,5 +1,5 @@
 -- The shape of a tree from its definition, and back.
-use Rattle.std.proofs.Common.{◌≡◌, ◌≢◌, ℕ, zero, suc, List, Bool, true, false, Option, None, Some, IsSome, refl, sym, ap, ◌∙◌, inl, inr}
+use Rattle.std.proofs.Common.{◌≡◌, ◌≢◌, ℕ, zero, suc, List, Bool, true, false, Option, None, Some, IsSome, refl, sym, ap, ◌∙◌}
 use Rattle.std.specs.Prelude.{option_and_then}
 use Rattle.s3_base.specs.declared.node_kind.Kind.{Kind}
 use Rattle.s3_base.specs.declared.node_kind.Kind.TheVariants as kinds
@@ -14,7 +14,7 @@ use Rattle.tree_laws.proofs.Counted.{sum_one}
 use Rattle.tree_laws.proofs.Lasting.{named_there}
 use Rattle.tree_laws.proofs.MovedOnce.{named_once}
 use Rattle.tree_laws.proofs.Renaming.{is_a_folder}
-use Rattle.tree_laws.proofs.Shape.{Leads, IsUnnamed, Grown, NoneGoes}
+use Rattle.tree_laws.proofs.Shape.{Leads, Grown, NoneGoes}
 use Rattle.tree_laws.proofs.Standing.{Sound}
 use Rattle.tree_laws.proofs.TreeShape.{kind_in, entry_in, shape_of, not_named, is_named_by}
 

@@ -9,7 +9,7 @@ use Rattle.plain_tree.specs.Entries.{entry_at, is_named, is_open, lives, settled
 use Rattle.plain_tree.specs.Tree.{Content, Regular, Directory, Link, Node, Tree, root, node_at, change_node, changed_by, without_node, named, touched, stamped}
 use Rattle.tree_laws.specs.Names.{NamesInOrder}
 use Rattle.tree_laws.specs.Numbers.{InOrder}
-use Rattle.tree_laws.specs.Renames.{IsStamped, IsTouched, HasLostName}
+use Rattle.tree_laws.specs.Renames.{IsStamped, IsTouched}
 use Rattle.tree_laws.proofs.Gaining.{Moves}
 use Rattle.tree_laws.proofs.Losing.{Unlinks, Removes, none_some}
 use Rattle.std.specs.Ordering.{nat_cmp}

@@ -2,6 +2,8 @@
 use Rattle.std.specs.Prelude.{◌≡◌, ◌≢◌, ◌⊎◌, ℕ, List, false, true, Option, None, Some}
 use Rattle.plain_tree.specs.Tree.{Directory, Node, Tree, node_at, stamped, touched}
 use Rattle.plain_tree.specs.Entries.{entry_at, lives}
+use Rattle.tree_laws.specs.Names.{NamesInOrder}
+use Rattle.tree_laws.specs.Numbers.{InOrder}
 
 -- p and n are another directory or another name than these
 abbrev pub IsAnotherEntry : ℕ → List ℕ → ℕ → List ℕ → Type 0
@@ -26,7 +28,7 @@ pub record IsTouched (now : ℕ) (before after : Option Node) : Type 0 where
 abbrev pub HasLostName : ℕ → ℕ → Tree → Tree → Type 0
 HasLostName inode now t after = ((lives after inode ≡ true) × IsStamped now (node_at t inode) (node_at after inode)) ⊎ ((lives after inode ≡ false) × (node_at after inode ≡ None))
 
--- one entry has moved to a new name, from which another node may have been named before
+-- one entry has moved to a new name, which may have named another node before
 pub record IsRenamed (parent : ℕ) (name : List ℕ) (new_parent : ℕ) (new_name : List ℕ) (now : ℕ) (t after : Tree) : Type 0 where
   pub inode : ℕ
   pub was : entry_at t parent name ≡ Some inode
@@ -43,3 +45,6 @@ pub record IsRenamed (parent : ℕ) (name : List ℕ) (new_parent : ℕ) (new_na
   pub next_inode : after.next_inode ≡ t.next_inode
   pub next_handle : after.next_handle ≡ t.next_handle
   pub block_size : after.block_size ≡ t.block_size
+  -- numbers and names stay in order, so that these entries and nodes are all that there are
+  pub ordered : InOrder after
+  pub names : NamesInOrder after

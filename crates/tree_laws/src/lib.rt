@@ -19,4 +19,6 @@ pub use limits::limits_stay;
 pub use locks::{locked_nodes_refuse, locked_nodes_stay};
 pub use names::names_stay_in_order;
 pub use numbers::nodes_stay_in_order;
-pub use renames::{reached_renames_move_one_entry, renamed_moves_one_entry};
+pub use renames::{
+    reached_renames_move_one_entry, renamed_moves_one_entry, renamed_stays_one_tree,
+};

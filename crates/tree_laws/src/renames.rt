@@ -5,8 +5,8 @@ ghost use Rattle.op_frames.specs.declared.reply.Reply.TheVariants as replies;
 ghost use Rattle.plain_tree.specs.Tree.{Tree, made_tree};
 ghost use Rattle.plain_tree.specs.Calls.{tree_after_all};
 ghost use Rattle.plain_tree.specs.Entries.{entry_at};
-ghost use Rattle.plain_tree.specs.Operations.{reply_to, tree_after};
-ghost use Rattle.plain_tree.specs.WellFormed.{HasOneTree};
+ghost use Rattle.plain_tree.specs.Operations.{reply_to, tree_after, HandlesBelow};
+ghost use Rattle.plain_tree.specs.WellFormed.{HasOneTree, HasNoOrphans};
 ghost use Rattle.tree_laws.specs.Names.{NamesInOrder};
 ghost use Rattle.tree_laws.specs.Numbers.{InOrder};
 ghost use Rattle.tree_laws.specs.Renames.{IsRenamed};
@@ -19,7 +19,14 @@ pub fn renamed_moves_one_entry()
         → IsRenamed parent name new_parent new_name now t (tree_after t pass (ops.Rename parent name new_parent new_name) now) }
 {}
 
-/// So it does after whatever calls come after the making, and the directories stay one tree.
+/// A Rename keeps the directories one tree, whatever it answers: no directory becomes its own ancestor.
+pub fn renamed_stays_one_tree()
+    ensures { (t : Tree) (pass now parent new_parent : ℕ) (name new_name : List ℕ) → InOrder t → NamesInOrder t → HandlesBelow t → HasOneTree t → HasNoOrphans t
+        → HasOneTree (tree_after t pass (ops.Rename parent name new_parent new_name) now) }
+{}
+
+/// Whatever calls come after the making, a Rename that is answered Done, of a name to one that does not name the same node,
+/// moves that entry so, and the directories stay one tree.
 pub fn reached_renames_move_one_entry()
     ensures { (block_size time : ℕ) (calls : List Request) (t : Tree) (pass now parent new_parent : ℕ) (name new_name : List ℕ) → t ≡ tree_after_all (made_tree block_size time) calls
         → reply_to t pass (ops.Rename parent name new_parent new_name) now ≡ replies.Done → entry_at t new_parent new_name ≢ entry_at t parent name
