@@ -15,6 +15,11 @@ pub mod Limited
 pub mod Locked
 pub mod Lookups
 pub mod Losing
+pub mod Moved
+pub mod MovedOnce
+pub mod MovedShape
+pub mod MovedTrees
+pub mod Moving
 pub mod Named
 pub mod Nodes
 pub mod Ordered

@@ -9,6 +9,7 @@ mod limits;
 mod locks;
 mod names;
 mod numbers;
+mod renames;
 
 pub use changes::changes_stay_in_one_node;
 pub use directories::{directories_stay_one_tree, orphans_stay_open_files};
@@ -18,3 +19,6 @@ pub use limits::limits_stay;
 pub use locks::{locked_nodes_refuse, locked_nodes_stay};
 pub use names::names_stay_in_order;
 pub use numbers::nodes_stay_in_order;
+pub use renames::{
+    reached_renames_move_one_entry, renamed_moves_one_entry, renamed_stays_one_tree,
+};
