@@ -4,6 +4,8 @@ pub mod Bools
 pub mod Branches
 pub mod Bytes
 pub mod Checked
+pub mod Copied
+pub mod Copying
 pub mod CopyShape
 pub mod Counted
 pub mod EachCall
