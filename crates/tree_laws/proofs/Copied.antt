@@ -96,7 +96,7 @@ one_of f good apart (Some x) (Some y) first second is =
     let same : f x ≡ f y = cc is in
     ap Some (apart x y (first x refl) (second y refl) same)
 
-record CanBeCopied (t : Tree) (source p : ℕ) (n : List ℕ) : Type 0 where
+pub record CanBeCopied (t : Tree) (source p : ℕ) (n : List ℕ) : Type 0 where
   pub ordered : InOrder t
   pub names : NamesInOrder t
   pub tree : HasOneTree t
@@ -106,7 +106,7 @@ record CanBeCopied (t : Tree) (source p : ℕ) (n : List ℕ) : Type 0 where
   pub free : entry_at t p n ≡ None
 
 -- what lies at or below the source is there
-node_below : (t : Tree) (source p : ℕ) (n : List ℕ) → CanBeCopied t source p n → (x : ℕ) → is_among (at_and_below t source) x ≡ true → (node : Node) × (node_at t x ≡ Some node)
+pub node_below : (t : Tree) (source p : ℕ) (n : List ℕ) → CanBeCopied t source p n → (x : ℕ) → is_among (at_and_below t source) x ≡ true → (node : Node) × (node_at t x ≡ Some node)
 node_below t source p n can x among =
     elim ((below_shape t can.names source).up x among) [
       | inl same ↦
@@ -239,14 +239,10 @@ alike t source p n now can =
 
 -- ---- the call
 
-pub copy_done : (t : Tree) (pass now source p : ℕ) (n : List ℕ) (attr : Attr) (failure : Option ℕ) → first_failure (checks t pass (ops.CopyTree source p n)) ≡ failure → InOrder t → NamesInOrder t → HasOneTree t
-    → reply_to t pass (ops.CopyTree source p n) now ≡ replies.Attr attr → IsCopied source p n now t (tree_after t pass (ops.CopyTree source p n) now)
-copy_done t pass now source p n attr (Some errno) is ordered names tree replied =
-    let refused = sym (reply_at t pass now (ops.CopyTree source p n) (Some errno) is) ∙ replied in
-    absurd (cc refused)
-copy_done t pass now source p n attr None is ordered names tree replied =
+can_be_copied : (t : Tree) (pass source p : ℕ) (n : List ℕ) → first_failure (checks t pass (ops.CopyTree source p n)) ≡ None → InOrder t → NamesInOrder t → HasOneTree t → CanBeCopied t source p n
+can_be_copied t pass source p n is ordered names tree =
     let all = all_pass (checks t pass (ops.CopyTree source p n)) is in
-    let can : CanBeCopied t source p n = record {
+    record {
       ordered = ordered;
       names = names;
       tree = tree;
@@ -254,13 +250,30 @@ copy_done t pass now source p n attr None is ordered names tree replied =
       parent = folder_is (node_at t p) all.1.1.1.0 all.1.1.1.1.0;
       outside = not_failed 22 (is_among (at_and_below t source) p) all.1.1.1.1.1.0;
       free = free_is (node_at t p) n all.1.1.1.1.1.1.1.0;
-    } in
-    rw (tree_at t pass now (ops.CopyTree source p n) None is)
+    }
+
+copied_by : (t : Tree) (pass now source p : ℕ) (n : List ℕ) (attr : Attr) (failure : Option ℕ) → first_failure (checks t pass (ops.CopyTree source p n)) ≡ failure
+    → reply_to t pass (ops.CopyTree source p n) now ≡ replies.Attr attr → failure ≡ None
+copied_by t pass now source p n attr None is replied = refl
+copied_by t pass now source p n attr (Some errno) is replied =
+    let refused = sym (reply_at t pass now (ops.CopyTree source p n) (Some errno) is) ∙ replied in
+    absurd (cc refused)
+
+-- where it is answered with attributes, no check fails
+pub can_be : (t : Tree) (pass now source p : ℕ) (n : List ℕ) (attr : Attr) → InOrder t → NamesInOrder t → HasOneTree t → reply_to t pass (ops.CopyTree source p n) now ≡ replies.Attr attr
+    → CanBeCopied t source p n
+can_be t pass now source p n attr ordered names tree replied = can_be_copied t pass source p n (copied_by t pass now source p n attr _ refl replied) ordered names tree
+
+pub copy_done : (t : Tree) (pass now source p : ℕ) (n : List ℕ) (attr : Attr) → InOrder t → NamesInOrder t → HasOneTree t → reply_to t pass (ops.CopyTree source p n) now ≡ replies.Attr attr
+    → IsCopied source p n now t (tree_after t pass (ops.CopyTree source p n) now)
+copy_done t pass now source p n attr ordered names tree replied =
+    let can : CanBeCopied t source p n = can_be t pass now source p n attr ordered names tree replied in
+    rw (tree_at t pass now (ops.CopyTree source p n) None (copied_by t pass now source p n attr _ refl replied))
     (record { gains = gains t source p n now can; rest = leaves t source p n now can; new = news t source p n now can; alike = alike t source p n now can })
 
 pub reached_copy : (block_size time : ℕ) (calls : List Request) (pass now source p : ℕ) (n : List ℕ) (attr : Attr)
     → reply_to (tree_after_all (made_tree block_size time) calls) pass (ops.CopyTree source p n) now ≡ replies.Attr attr
     → IsCopied source p n now (tree_after_all (made_tree block_size time) calls) (tree_after (tree_after_all (made_tree block_size time) calls) pass (ops.CopyTree source p n) now)
 reached_copy block_size time calls pass now source p n attr replied =
-    copy_done (tree_after_all (made_tree block_size time) calls) pass now source p n attr _ refl (reached_ordered block_size time calls) (reached_named block_size time calls)
+    copy_done (tree_after_all (made_tree block_size time) calls) pass now source p n attr (reached_ordered block_size time calls) (reached_named block_size time calls)
     (one_tree block_size time calls) replied

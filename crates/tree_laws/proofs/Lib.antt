@@ -25,6 +25,7 @@ pub mod Preserved
 pub mod Renaming
 pub mod Rising
 pub mod Shape
+pub mod Sides
 pub mod Sounding
 pub mod Spelling
 pub mod Standing

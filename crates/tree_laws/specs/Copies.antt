@@ -7,6 +7,7 @@ use Rattle.op_frames.specs.declared.operation.Op.TheVariants as ops
 use Rattle.plain_tree.specs.Below.{at_and_below, is_at_or_below}
 use Rattle.plain_tree.specs.Entries.{entry_at}
 use Rattle.plain_tree.specs.Files.{inode_of}
+use Rattle.plain_tree.specs.Operations.{tree_after}
 use Rattle.plain_tree.specs.Subtrees.{copy_number}
 use Rattle.plain_tree.specs.Tree.{Content, Regular, Directory, Link, Node, Tree, node_at, handle_of, entry_of, touched}
 use Rattle.tree_laws.specs.Changes.{node_changed}
@@ -87,7 +88,16 @@ pub record IsCopied (source parent : ℕ) (name : List ℕ) (now : ℕ) (t after
   pub new : IsNew source t after
   pub alike : IsAlike source now t after
 
+-- ---- after the copying
+
 -- the node that a Write, or another operation on one node alone, would change
 abbrev pub node_written : Tree → ℕ → Op → Option ℕ
 node_written t pass (ops.Write handle offset text) = Some (inode_of (handle_of t pass handle))
 node_written t pass op = node_changed op
+
+-- what is written to a node of one side leaves every node of the other side
+pub record AreApart (source : ℕ) (t later : Tree) : Type 0 where
+  pub copy_stays : (pass now x y : ℕ) (op : Op) → IsTrue (is_at_or_below t source x) → IsTrue (is_at_or_below t source y) → node_written later pass op ≡ Some x
+      → node_at (tree_after later pass op now) (number_of t source y) ≡ node_at later (number_of t source y)
+  pub source_stays : (pass now x y : ℕ) (op : Op) → IsTrue (is_at_or_below t source x) → IsTrue (is_at_or_below t source y) → node_written later pass op ≡ Some (number_of t source x)
+      → node_at (tree_after later pass op now) y ≡ node_at later y

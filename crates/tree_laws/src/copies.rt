@@ -9,7 +9,7 @@ ghost use Rattle.plain_tree.specs.Calls.{tree_after_all};
 ghost use Rattle.plain_tree.specs.Operations.{reply_to, tree_after};
 ghost use Rattle.plain_tree.specs.Tree.{Tree, made_tree, node_at};
 ghost use Rattle.plain_tree.specs.WellFormed.{HasOneTree};
-ghost use Rattle.tree_laws.specs.Copies.{number_of, IsCopied, node_written};
+ghost use Rattle.tree_laws.specs.Copies.{IsCopied, AreApart};
 ghost use Rattle.tree_laws.specs.Names.{NamesInOrder};
 ghost use Rattle.tree_laws.specs.Numbers.{InOrder};
 
@@ -28,4 +28,11 @@ pub fn copies_are_copies()
         → reply_to (tree_after_all (made_tree block_size time) calls) pass (ops.CopyTree source parent name) now ≡ replies.Attr attr
         → IsCopied source parent name now (tree_after_all (made_tree block_size time) calls)
         (tree_after (tree_after_all (made_tree block_size time) calls) pass (ops.CopyTree source parent name) now) }
+{}
+
+/// Source and copy stay apart: in any later tree, a Write, a Truncate or another operation on one node alone, of a node of one
+/// side, leaves every node of the other side as it was, whatever it answers.
+pub fn sides_stay_apart()
+    ensures { (t later : Tree) (pass now source parent : ℕ) (name : List ℕ) (attr : Attr) → InOrder t → NamesInOrder t → HasOneTree t
+        → reply_to t pass (ops.CopyTree source parent name) now ≡ replies.Attr attr → AreApart source t later }
 {}
