@@ -9,19 +9,17 @@ use Rattle.std.specs.Ordering.{nat_cmp, match_ordering, is_eq}
 use Rattle.std.specs.declared.cmp.Ordering.{Ordering}
 use Rattle.std.specs.declared.cmp.Ordering.TheVariants.{Less, Equal, Greater}
 use Rattle.std.proofs.lemmas.Map.Made.{lookup-map_values, keys_of-map_values}
-use Rattle.op_frames.specs.Replay.{Request}
 use Rattle.op_frames.specs.declared.operation.Op.TheVariants as ops
 use Rattle.op_frames.specs.declared.reply.Attr.{Attr}
 use Rattle.op_frames.specs.declared.reply.Reply.TheVariants as replies
 use Rattle.s3_base.specs.declared.node_kind.Kind.TheVariants as kinds
 use Rattle.plain_tree.specs.Attributes.{kind_of}
 use Rattle.plain_tree.specs.Below.{is_among, at_and_below}
-use Rattle.plain_tree.specs.Calls.{tree_after_all}
 use Rattle.plain_tree.specs.Checks.{first_failure}
 use Rattle.plain_tree.specs.Entries.{entry_at}
 use Rattle.plain_tree.specs.Operations.{checks, reply_to, tree_after}
 use Rattle.plain_tree.specs.Subtrees.{copy_number, copied_content, copied_node, with_copy}
-use Rattle.plain_tree.specs.Tree.{Content, Regular, Directory, Link, Node, Tree, made_tree, node_at, entry_of, changed_by, named, touched}
+use Rattle.plain_tree.specs.Tree.{Content, Regular, Directory, Link, Node, Tree, node_at, entry_of, changed_by, named, touched}
 use Rattle.plain_tree.specs.WellFormed.{HasOneTree}
 use Rattle.plain_tree.proofs.Replies.{reply_at, tree_at}
 use Rattle.tree_laws.specs.Changes.{ChangesOneNode}
@@ -32,11 +30,8 @@ use Rattle.tree_laws.proofs.Branches.{Copies}
 use Rattle.tree_laws.proofs.CopyShape.{kind_some, none_at, copy_shape}
 use Rattle.tree_laws.proofs.Copying.{place_within, with_copies, old_node, new_node}
 use Rattle.tree_laws.proofs.Gaining.{IsBelow}
-use Rattle.tree_laws.proofs.Lasting.{one_tree}
 use Rattle.tree_laws.proofs.Losing.{none_some}
-use Rattle.tree_laws.proofs.Named.{reached_named}
 use Rattle.tree_laws.proofs.Nodes.{changes_one}
-use Rattle.tree_laws.proofs.Ordered.{reached_ordered}
 use Rattle.tree_laws.proofs.Passing.{all_pass, not_failed}
 use Rattle.tree_laws.proofs.Standing.{folder_is, free_is}
 use Rattle.tree_laws.proofs.Still.{present}
@@ -211,6 +206,7 @@ alike t source p n now can =
       itself = below.itself;
       first = first_number t source p n now can;
       down = λ x y name among is. below.down x y name among is;
+      up = λ x among. below.up x among;
       copies = λ x among.
           let node = node_below t source p n can x among in (
             node.0,
@@ -270,10 +266,3 @@ copy_done t pass now source p n attr ordered names tree replied =
     let can : CanBeCopied t source p n = can_be t pass now source p n attr ordered names tree replied in
     rw (tree_at t pass now (ops.CopyTree source p n) None (copied_by t pass now source p n attr _ refl replied))
     (record { gains = gains t source p n now can; rest = leaves t source p n now can; new = news t source p n now can; alike = alike t source p n now can })
-
-pub reached_copy : (block_size time : ℕ) (calls : List Request) (pass now source p : ℕ) (n : List ℕ) (attr : Attr)
-    → reply_to (tree_after_all (made_tree block_size time) calls) pass (ops.CopyTree source p n) now ≡ replies.Attr attr
-    → IsCopied source p n now (tree_after_all (made_tree block_size time) calls) (tree_after (tree_after_all (made_tree block_size time) calls) pass (ops.CopyTree source p n) now)
-reached_copy block_size time calls pass now source p n attr replied =
-    copy_done (tree_after_all (made_tree block_size time) calls) pass now source p n attr (reached_ordered block_size time calls) (reached_named block_size time calls)
-    (one_tree block_size time calls) replied

@@ -1,17 +1,27 @@
 -- What is written to a source or to its copy leaves the other.
 use Rattle.std.proofs.Common.{◌≡◌, ◌≢◌, ◌<◌, ℕ, List, Bool, true, false, cond, Option, None, Some, refl, sym, ap, ◌∙◌, arith}
 use Rattle.std.specs.Prelude.{◌==◌, length}
+use Rattle.op_frames.specs.Replay.{Request}
 use Rattle.op_frames.specs.declared.operation.Op.{Op}
 use Rattle.op_frames.specs.declared.operation.Op.TheVariants as ops
+use Rattle.op_frames.specs.declared.reply.Attr.{Attr}
+use Rattle.op_frames.specs.declared.reply.Reply.TheVariants as replies
 use Rattle.plain_tree.specs.Below.{is_among, at_and_below}
+use Rattle.plain_tree.specs.Calls.{tree_after_all}
 use Rattle.plain_tree.specs.Checks.{first_failure}
 use Rattle.plain_tree.specs.Files.{inode_of, with_bytes, written_at}
-use Rattle.plain_tree.specs.Operations.{checks, tree_after}
-use Rattle.plain_tree.specs.Tree.{Node, Tree, node_at, handle_of, change_node, touched}
+use Rattle.plain_tree.specs.Operations.{checks, reply_to, tree_after}
+use Rattle.plain_tree.specs.Tree.{Node, Tree, made_tree, node_at, handle_of, change_node, touched}
+use Rattle.plain_tree.specs.WellFormed.{HasOneTree}
 use Rattle.plain_tree.proofs.Replies.{tree_at}
-use Rattle.tree_laws.specs.Copies.{number_of, node_written, AreApart}
+use Rattle.tree_laws.specs.Copies.{number_of, node_written, IsCopied, AreApart}
+use Rattle.tree_laws.specs.Names.{NamesInOrder}
+use Rattle.tree_laws.specs.Numbers.{InOrder}
 use Rattle.tree_laws.proofs.Alone.{stays_alone}
-use Rattle.tree_laws.proofs.Copied.{CanBeCopied, node_below}
+use Rattle.tree_laws.proofs.Copied.{CanBeCopied, node_below, can_be, copy_done}
+use Rattle.tree_laws.proofs.Lasting.{one_tree}
+use Rattle.tree_laws.proofs.Named.{reached_named}
+use Rattle.tree_laws.proofs.Ordered.{reached_ordered}
 use Rattle.tree_laws.proofs.Still.{present}
 use Rattle.tree_laws.proofs.TreeShape.{changed_there}
 
@@ -47,3 +57,16 @@ sides_apart t later source p n can = record {
   copy_stays = λ pass now x y op first second names. leaves later pass now x (number_of t source y) op names (λ same. sides_differ t source p n can x y first (sym same));
   source_stays = λ pass now x y op first second names. leaves later pass now (number_of t source x) y op names (sides_differ t source p n can y x second);
 }
+
+-- ---- after any calls
+
+pub reached_copy : (block_size time : ℕ) (calls : List Request) (pass now source p : ℕ) (n : List ℕ) (attr : Attr)
+    → reply_to (tree_after_all (made_tree block_size time) calls) pass (ops.CopyTree source p n) now ≡ replies.Attr attr
+    → IsCopied source p n now (tree_after_all (made_tree block_size time) calls) (tree_after (tree_after_all (made_tree block_size time) calls) pass (ops.CopyTree source p n) now)
+    × ((later : Tree) → AreApart source (tree_after_all (made_tree block_size time) calls) later)
+reached_copy block_size time calls pass now source p n attr replied =
+    let t : Tree = tree_after_all (made_tree block_size time) calls in
+    let ordered : InOrder t = reached_ordered block_size time calls in
+    let names : NamesInOrder t = reached_named block_size time calls in
+    let tree : HasOneTree t = one_tree block_size time calls in
+    (copy_done t pass now source p n attr ordered names tree replied, λ later. sides_apart t later source p n (can_be t pass now source p n attr ordered names tree replied))

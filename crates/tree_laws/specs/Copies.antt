@@ -1,5 +1,5 @@
 -- What a copy of a directory is.
-use Rattle.std.specs.Prelude.{◌≡◌, ◌≢◌, ◌≤◌, ◌<◌, ◌+◌, ℕ, List, length, false, IsTrue, IsSome, Option, None, Some}
+use Rattle.std.specs.Prelude.{◌≡◌, ◌≢◌, ◌≤◌, ◌<◌, ◌+◌, ◌⊎◌, ℕ, List, length, false, IsTrue, IsSome, Option, None, Some}
 use Rattle.std.specs.Map.{keys_of}
 use Rattle.std.specs.Option.{option_map}
 use Rattle.op_frames.specs.declared.operation.Op.{Op}
@@ -66,10 +66,11 @@ pub record IsNew (source : ℕ) (t after : Tree) : Type 0 where
 
 -- source and copy are equal under the numbering
 pub record IsAlike (source now : ℕ) (t after : Tree) : Type 0 where
-  -- the source is the first, and what an entry at or below it names is at or below it too
+  -- the source is the first; what an entry at or below it names is at or below it too, and nothing else is
   pub itself : IsTrue (is_at_or_below t source source)
   pub first : number_of t source source ≡ t.next_inode
   pub down : (x y : ℕ) (name : List ℕ) → IsTrue (is_at_or_below t source x) → entry_at t x name ≡ Some y → IsTrue (is_at_or_below t source y)
+  pub up : (x : ℕ) → IsTrue (is_at_or_below t source x) → (x ≡ source) ⊎ ((y : ℕ) × (name : List ℕ) × IsTrue (is_at_or_below t source y) × (entry_at t y name ≡ Some x))
   -- each node has its copy
   pub copies : (x : ℕ) → IsTrue (is_at_or_below t source x)
       → (node : Node) × (copy : Node) × (node_at t x ≡ Some node) × (node_at after (number_of t source x) ≡ Some copy) × IsCopyOf (number_of t source) now node copy
