@@ -4,6 +4,8 @@ pub mod Bools
 pub mod Branches
 pub mod Bytes
 pub mod Checked
+pub mod Copied
+pub mod Copying
 pub mod CopyShape
 pub mod Counted
 pub mod EachCall
@@ -28,6 +30,7 @@ pub mod Preserved
 pub mod Renaming
 pub mod Rising
 pub mod Shape
+pub mod Sides
 pub mod Sounding
 pub mod Spelling
 pub mod Standing

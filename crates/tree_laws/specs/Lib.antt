@@ -1,4 +1,5 @@
 pub mod Changes
+pub mod Copies
 pub mod Files
 pub mod Locks
 pub mod Names

@@ -2,6 +2,7 @@
 #![tactic(auto)]
 
 mod changes;
+mod copies;
 mod directories;
 mod entries;
 mod files;
@@ -12,6 +13,7 @@ mod numbers;
 mod renames;
 
 pub use changes::changes_stay_in_one_node;
+pub use copies::{copies_are_copies, copy_is_a_copy, sides_stay_apart};
 pub use directories::{directories_stay_one_tree, orphans_stay_open_files};
 pub use entries::{entries_name_nodes, names_stay_legal, renamed_to_itself_is_as_before};
 pub use files::{truncated_is_cut, written_is_read};
