@@ -20,6 +20,7 @@ pub mod Nodes
 pub mod Ordered
 pub mod Passing
 pub mod Preserved
+pub mod Removed
 pub mod Renaming
 pub mod Rising
 pub mod Shape

@@ -3,3 +3,4 @@ pub mod Files
 pub mod Locks
 pub mod Names
 pub mod Numbers
+pub mod Removals

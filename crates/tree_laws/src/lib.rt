@@ -9,6 +9,7 @@ mod limits;
 mod locks;
 mod names;
 mod numbers;
+mod removals;
 
 pub use changes::changes_stay_in_one_node;
 pub use directories::{directories_stay_one_tree, orphans_stay_open_files};
@@ -18,3 +19,4 @@ pub use limits::limits_stay;
 pub use locks::{locked_nodes_refuse, locked_nodes_stay};
 pub use names::names_stay_in_order;
 pub use numbers::nodes_stay_in_order;
+pub use removals::removal_removes_what_it_names;
