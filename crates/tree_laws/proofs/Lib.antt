@@ -9,10 +9,12 @@ pub mod Counted
 pub mod EachCall
 pub mod EachNode
 pub mod Gaining
+pub mod Holding
 pub mod Lasting
 pub mod Legal
 pub mod Limited
 pub mod Locked
+pub mod Locking
 pub mod Lookups
 pub mod Losing
 pub mod Named
