@@ -162,7 +162,7 @@ either : (good : Node → Type 0) (test : Bool) (a b : Tree) → Each good a.nod
 either good true a b first second = first
 either good false a b first second = second refl
 
-settle : (good : Node → Type 0) (inode : ℕ) (t : Tree) → Each good t.nodes → Each good (settled inode t).nodes
+pub settle : (good : Node → Type 0) (inode : ℕ) (t : Tree) → Each good t.nodes → Each good (settled inode t).nodes
 settle good inode t each = either good (lives t inode) t (without_node inode t) each (λ is. each-remove good (is_at (nat_cmp inode)) t.nodes each)
 
 lose : (good : Node → Type 0) → Keeps good → (now : ℕ) (inode : Option ℕ) (t : Tree) → Each good t.nodes → Each good (dropped now inode t).nodes

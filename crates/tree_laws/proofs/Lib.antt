@@ -11,10 +11,12 @@ pub mod Counted
 pub mod EachCall
 pub mod EachNode
 pub mod Gaining
+pub mod Holding
 pub mod Lasting
 pub mod Legal
 pub mod Limited
 pub mod Locked
+pub mod Locking
 pub mod Lookups
 pub mod Losing
 pub mod Moved
@@ -27,6 +29,7 @@ pub mod Nodes
 pub mod Ordered
 pub mod Passing
 pub mod Preserved
+pub mod Removed
 pub mod Renaming
 pub mod Rising
 pub mod Shape

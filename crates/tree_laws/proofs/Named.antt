@@ -11,7 +11,7 @@ use Rattle.op_frames.specs.declared.operation.Op.TheVariants as ops
 use Rattle.op_frames.specs.Replay.{Request}
 use Rattle.plain_tree.specs.Tree.{Content, Regular, Directory, Link, Node, Tree, made_tree, change_node, named, stamped}
 use Rattle.plain_tree.specs.Calls.{tree_after_all}
-use Rattle.plain_tree.specs.Entries.{entries_of, add_entry, drop_entry, unnamed}
+use Rattle.plain_tree.specs.Entries.{settled, entries_of, add_entry, drop_entry, unnamed}
 use Rattle.plain_tree.specs.Files.{with_bytes, written_at, resized}
 use Rattle.plain_tree.specs.Operations.{tree_after}
 use Rattle.plain_tree.specs.Subtrees.{copied_content, copy_number}
@@ -74,6 +74,9 @@ drop parent name now t rise = change _ (λ node sound. sound-unnamed name node.c
 
 pub stamp : (now inode : ℕ) (t : Tree) → NamesInOrder t → NamesInOrder (change_node inode (stamped now) t)
 stamp now inode t rise = change (stamped now) (λ node sound. sound) inode t rise
+
+pub settle : (inode : ℕ) (t : Tree) → NamesInOrder t → NamesInOrder (settled inode t)
+settle inode t rise = from_each (settled inode t).nodes (each.settle HasNamesInOrder inode t (to_each t.nodes rise))
 
 -- ---- the operations
 

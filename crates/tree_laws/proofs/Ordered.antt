@@ -12,12 +12,13 @@ use Rattle.op_frames.specs.Replay.{Request}
 use Rattle.plain_tree.specs.Tree.{Node, Tree, made_tree, node_at, change_node, changed_by, without_node, with_node, stamped}
 use Rattle.plain_tree.specs.Below.{is_among, at_and_below}
 use Rattle.plain_tree.specs.Calls.{tree_after_all}
-use Rattle.plain_tree.specs.Entries.{is_directory, lives}
+use Rattle.plain_tree.specs.Entries.{settled, is_directory, lives}
 use Rattle.plain_tree.specs.Operations.{tree_after}
 use Rattle.plain_tree.specs.Subtrees.{copies, with_lock, left_over, without_directories}
 use Rattle.tree_laws.specs.Numbers.{Ascend, InOrder}
 use Rattle.tree_laws.proofs.Ascending.{joined, ascend-left, ascend-remove, ascend-filter, ascend-insert}
 use Rattle.tree_laws.proofs.EachCall.{after_call, after_calls}
+use Rattle.tree_laws.proofs.Preserved as preserved_by
 use Rattle.tree_laws.proofs.Preserved.{Preserved, preserved}
 use Rattle.tree_laws.proofs.Visited.{copies_ascend}
 
@@ -87,6 +88,9 @@ order_preserved = record {
   uproots = uprooted;
   leaves = λ pass t ordered. ascend-filter 0 (λ (e : ℕ × Node). lives (record t { handles = filter (λ h. not (h.1.pass == pass)) t.handles }) e.0) t.nodes t.next_inode ordered;
 }
+
+pub settle : (inode : ℕ) (t : Tree) → InOrder t → InOrder (settled inode t)
+settle inode t ordered = preserved_by.settle InOrder order_preserved inode t ordered
 
 pub ordered_after : (t : Tree) (pass now : ℕ) (op : Op) → InOrder t → InOrder (tree_after t pass op now)
 ordered_after t pass now op ordered = after_call InOrder t pass now op ordered (λ passes. preserved InOrder order_preserved t pass now op ordered)

@@ -28,7 +28,7 @@ either : (P : Tree → Type 0) (test : Bool) (a b : Tree) → P a → P b → P 
 either P true a b first second = first
 either P false a b first second = second
 
-settle : (P : Tree → Type 0) → Preserved P → (inode : ℕ) (t : Tree) → P t → P (settled inode t)
+pub settle : (P : Tree → Type 0) → Preserved P → (inode : ℕ) (t : Tree) → P t → P (settled inode t)
 settle P keeps inode t holds = either P (lives t inode) t (without_node inode t) holds (keeps.removes inode t holds)
 
 drop : (P : Tree → Type 0) → Preserved P → (now : ℕ) (inode : Option ℕ) (t : Tree) → P t → P (dropped now inode t)

@@ -1,7 +1,9 @@
 pub mod Changes
 pub mod Copies
 pub mod Files
+pub mod LockedTrees
 pub mod Locks
 pub mod Names
 pub mod Numbers
+pub mod Removals
 pub mod Renames

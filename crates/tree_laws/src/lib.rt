@@ -10,6 +10,7 @@ mod limits;
 mod locks;
 mod names;
 mod numbers;
+mod removals;
 mod renames;
 
 pub use changes::changes_stay_in_one_node;
@@ -18,9 +19,10 @@ pub use directories::{directories_stay_one_tree, orphans_stay_open_files};
 pub use entries::{entries_name_nodes, names_stay_legal, renamed_to_itself_is_as_before};
 pub use files::{truncated_is_cut, written_is_read};
 pub use limits::limits_stay;
-pub use locks::{locked_nodes_refuse, locked_nodes_stay};
+pub use locks::{locked_entries_stay, locked_nodes_refuse, locked_nodes_stay, locked_trees_stay};
 pub use names::names_stay_in_order;
 pub use numbers::nodes_stay_in_order;
+pub use removals::removal_removes_what_it_names;
 pub use renames::{
     reached_renames_move_one_entry, renamed_moves_one_entry, renamed_stays_one_tree,
 };

@@ -1,12 +1,15 @@
 ghost use Rattle.std.specs.Prelude.{◌≡◌, ℕ, List, Some, true};
 ghost use Rattle.op_frames.specs.Replay.{Request};
 ghost use Rattle.op_frames.specs.declared.operation.Op.{Op};
+ghost use Rattle.op_frames.specs.declared.operation.Op.TheVariants as ops;
 ghost use Rattle.op_frames.specs.declared.reply.Reply.TheVariants as replies;
 ghost use Rattle.s3_base.specs.declared.errors.Errno.{Errno};
-ghost use Rattle.plain_tree.specs.Tree.{Node, Tree, node_at};
-ghost use Rattle.plain_tree.specs.Operations.{reply_to};
+ghost use Rattle.plain_tree.specs.Tree.{Node, Tree, made_tree, node_at};
+ghost use Rattle.plain_tree.specs.Entries.{entry_at};
+ghost use Rattle.plain_tree.specs.Operations.{reply_to, tree_after};
 ghost use Rattle.plain_tree.specs.Calls.{tree_after_all};
 ghost use Rattle.tree_laws.specs.Locks.{WouldChange, IsKept};
+ghost use Rattle.tree_laws.specs.LockedTrees.{AllSpare, IsAsBefore, AreNoRemovals, StaysLocked};
 ghost use Rattle.tree_laws.specs.Numbers.{InOrder};
 
 /// A locked node refuses what would change it: its mode, owner, times, bytes or attributes, an entry in it, or the entry that
@@ -21,4 +24,22 @@ pub fn locked_nodes_refuse()
 pub fn locked_nodes_stay()
     ensures { (t : Tree) (calls : List Request) (inode : ℕ) (node : Node) → InOrder t → node_at t inode ≡ Some node → node.locked ≡ true
         → IsKept (node_at (tree_after_all t calls) inode) node }
+{}
+
+/// Whatever calls come after the making, an entry that names a locked node stays and names it, and the node stays as it is but
+/// for ctime, through all further calls but a RemoveTree of the entry, or of a directory at or above the one that it is in.
+pub fn locked_entries_stay()
+    ensures { (block_size time : ℕ) (calls more : List Request) (parent inode : ℕ) (name : List ℕ) (node : Node) → node_at (tree_after_all (made_tree block_size time) calls) inode ≡ Some node
+        → node.locked ≡ true → entry_at (tree_after_all (made_tree block_size time) calls) parent name ≡ Some inode
+        → AllSpare (tree_after_all (made_tree block_size time) calls) parent name more
+        → IsAsBefore parent name inode node (tree_after_all (tree_after_all (made_tree block_size time) calls) more) }
+{}
+
+/// Whatever calls come after the making, once a LockTree is answered Done, all at and below its inode stays as it is but for
+/// ctime, under the same names, through all further calls without a RemoveTree.
+pub fn locked_trees_stay()
+    ensures { (block_size time : ℕ) (calls more : List Request) (pass now inode : ℕ) → reply_to (tree_after_all (made_tree block_size time) calls) pass (ops.LockTree inode) now ≡ replies.Done
+        → AreNoRemovals more
+        → StaysLocked inode (tree_after_all (made_tree block_size time) calls)
+        (tree_after_all (tree_after (tree_after_all (made_tree block_size time) calls) pass (ops.LockTree inode) now) more) }
 {}

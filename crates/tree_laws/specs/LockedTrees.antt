@@ -1,0 +1,40 @@
+-- What stays of a locked tree.
+use Rattle.std.specs.Prelude.{◌≡◌, ℕ, List, [], ◌∷◌, true, false, Some}
+use Rattle.op_frames.specs.Replay.{Request}
+use Rattle.op_frames.specs.declared.operation.Op.{Op}
+use Rattle.op_frames.specs.declared.operation.Op.TheVariants as ops
+use Rattle.plain_tree.specs.Below.{is_at_or_below}
+use Rattle.plain_tree.specs.Entries.{entry_at}
+use Rattle.plain_tree.specs.Operations.{tree_after}
+use Rattle.plain_tree.specs.Tree.{Node, Tree, node_at, stamped}
+
+-- the operation is no RemoveTree that takes the entry away: of the entry itself, or of a directory at or above the one it is in
+abbrev pub Spares : Tree → ℕ → List ℕ → Op → Type 0
+Spares t parent name (ops.RemoveTree from by) = (top : ℕ) → entry_at t from by ≡ Some top → (is_at_or_below t top parent ≡ false) × ((parent ≡ from) × (name ≡ by) → ⊥)
+Spares t parent name op = Unit {0}
+
+-- each of the calls spares the entry in the tree that it finds
+abbrev pub AllSpare : Tree → ℕ → List ℕ → List Request → Type 0
+AllSpare t parent name [] = Unit {0}
+AllSpare t parent name (call ∷ calls) = Spares t parent name call.op × AllSpare (tree_after t call.pass call.op call.now) parent name calls
+
+-- the operation is no RemoveTree
+abbrev pub IsNoRemoval : Op → Type 0
+IsNoRemoval (ops.RemoveTree parent name) = ⊥
+IsNoRemoval op = Unit {0}
+
+abbrev pub AreNoRemovals : List Request → Type 0
+AreNoRemovals [] = Unit {0}
+AreNoRemovals (call ∷ calls) = IsNoRemoval call.op × AreNoRemovals calls
+
+-- the entry names the inode, whose node is as it was but for ctime
+pub record IsAsBefore (parent : ℕ) (name : List ℕ) (inode : ℕ) (node : Node) (after : Tree) : Type 0 where
+  pub names : entry_at after parent name ≡ Some inode
+  pub time : ℕ
+  pub is : node_at after inode ≡ Some (stamped time node)
+
+-- all at and below an inode is as it was but for ctime, and locked, and so are the entries that name it
+pub record StaysLocked (top : ℕ) (t after : Tree) : Type 0 where
+  pub nodes : (inode : ℕ) (node : Node) → is_at_or_below t top inode ≡ true → node_at t inode ≡ Some node
+      → (time : ℕ) × (node_at after inode ≡ Some (stamped time (record node { locked = true })))
+  pub entries : (parent inode : ℕ) (name : List ℕ) → is_at_or_below t top inode ≡ true → entry_at t parent name ≡ Some inode → entry_at after parent name ≡ Some inode
