@@ -250,24 +250,33 @@ stays_by t pass now ops.Leave p x n node held passes spares =
     sweeps.entry p n ∙ ap (λ b. cond b (entry_at t p n) None) (lives_if t held.sound (without_pass pass t) keeps sweeps p (folder_of t p x n node held) (keeps p) refl) ∙ held.names
 stays_by t pass now op p x n node held passes spares = held.names
 
-pub stays : (t : Tree) (pass now : ℕ) (op : Op) (p x : ℕ) (n : List ℕ) (node : Node) → Held t p x n node → Spares t p n op → entry_at (tree_after t pass op now) p n ≡ Some x
+stays : (t : Tree) (pass now : ℕ) (op : Op) (p x : ℕ) (n : List ℕ) (node : Node) → Held t p x n node → (first_failure (checks t pass op) ≡ None → Spares t p n op)
+    → entry_at (tree_after t pass op now) p n ≡ Some x
 stays t pass now op p x n node held spares =
-    after_call (λ after. entry_at after p n ≡ Some x) t pass now op held.names (λ passes. stays_by t pass now op p x n node held passes spares)
-
--- ---- lists of calls
+    after_call (λ after. entry_at after p n ≡ Some x) t pass now op held.names (λ passes. stays_by t pass now op p x n node held passes (spares passes))
 
 there_still : (found : Option Node) (node : Node) (k : Kind) → kind_in found ≡ Some k → IsKept found node → (time : ℕ) × (found ≡ Some (stamped time node))
 there_still found node k is (inl gone) = absurd (none_some (kind_in found) k (ap kind_in gone) is)
 there_still found node k is (inr kept) = kept
 
+pub one_stays : (t : Tree) (pass now : ℕ) (op : Op) (p x : ℕ) (n : List ℕ) (node : Node) → Held t p x n node → (first_failure (checks t pass op) ≡ None → Spares t p n op)
+    → IsAsBefore p n x node (tree_after t pass op now)
+one_stays t pass now op p x n node held spares =
+    let call : Request = record { pass = pass; now = now; op = op } in
+    let next : Tree = tree_after t pass op now in
+    let names : entry_at next p n ≡ Some x = stays t pass now op p x n node held spares in
+    let sound : Sound next = sound_after t (call ∷ []) held.sound in
+    let there = sound.grown.there p x n names in
+    let kept = there_still (node_at next x) node there.0 there.1 (kept_after t (call ∷ []) x node held.sound.ordered held.is held.locked) in
+    record { names = names; time = kept.0; is = kept.1 }
+
+-- ---- lists of calls
+
 pub all_stay : (t : Tree) (calls : List Request) (p x : ℕ) (n : List ℕ) (node : Node) → Held t p x n node → AllSpare t p n calls → IsAsBefore p n x node (tree_after_all t calls)
 all_stay t [] p x n node held spare = record { names = held.names; time = node.ctime; is = held.is }
 all_stay t (call ∷ calls) p x n node held spare =
     let next : Tree = tree_after t call.pass call.op call.now in
-    let names : entry_at next p n ≡ Some x = stays t call.pass call.now call.op p x n node held spare.0 in
-    let sound : Sound next = sound_after t (call ∷ []) held.sound in
-    let there = sound.grown.there p x n names in
-    let kept = there_still (node_at next x) node there.0 there.1 (kept_after t (call ∷ []) x node held.sound.ordered held.is held.locked) in
-    let rest : IsAsBefore p n x (stamped kept.0 node) (tree_after_all next calls) =
-    all_stay next calls p x n (stamped kept.0 node) (record { sound = sound; is = kept.1; locked = held.locked; names = names }) spare.1 in
+    let one : IsAsBefore p n x node next = one_stays t call.pass call.now call.op p x n node held (λ passes. spare.0) in
+    let rest : IsAsBefore p n x (stamped one.time node) (tree_after_all next calls) =
+    all_stay next calls p x n (stamped one.time node) (record { sound = sound_after t (call ∷ []) held.sound; is = one.is; locked = held.locked; names = one.names }) spare.1 in
     record { names = rest.names; time = rest.time; is = rest.is }

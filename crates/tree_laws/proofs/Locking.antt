@@ -4,7 +4,7 @@ use Rattle.std.specs.Prelude.{◌==◌, map}
 use Rattle.std.specs.BTreeMap.{is_at}
 use Rattle.std.specs.Map.{lookup}
 use Rattle.std.specs.Ordering.{nat_cmp}
-use Rattle.std.proofs.lemmas.Bool.{eq-eqb}
+use Rattle.std.proofs.lemmas.Bool.{cases_eq, eq-eqb}
 use Rattle.op_frames.specs.Replay.{Request}
 use Rattle.op_frames.specs.declared.operation.Op.{Op}
 use Rattle.op_frames.specs.declared.operation.Op.TheVariants as ops
@@ -16,19 +16,24 @@ use Rattle.plain_tree.specs.Checks.{first_failure, root_check}
 use Rattle.plain_tree.specs.Entries.{entry_at}
 use Rattle.plain_tree.specs.Operations.{checks, reply_to, tree_after}
 use Rattle.plain_tree.specs.Subtrees.{with_lock}
-use Rattle.plain_tree.specs.Tree.{Node, Tree, root, made_tree, node_at}
+use Rattle.plain_tree.specs.Tree.{Node, Tree, root, made_tree, node_at, stamped}
 use Rattle.plain_tree.proofs.Replies.{reply_at, tree_at}
-use Rattle.tree_laws.specs.LockedTrees.{Spares, AllSpare, IsNoRemoval, AreNoRemovals, IsAsBefore, StaysLocked}
-use Rattle.tree_laws.proofs.CopyShape.{kind_some}
-use Rattle.tree_laws.proofs.Holding.{all_stay}
+use Rattle.tree_laws.specs.LockedTrees.{Spares, AllSpare, SparesTree, AllSpareTree, IsAsBefore, StaysLocked}
+use Rattle.tree_laws.proofs.CopyShape.{kind_some, entry_some}
+use Rattle.tree_laws.proofs.Gaining.{inside}
+use Rattle.tree_laws.proofs.Bools.{differ, is_false}
+use Rattle.tree_laws.proofs.Locked.{first_of, refused}
+use Rattle.tree_laws.proofs.Holding.{one_stays, all_stay}
+use Rattle.tree_laws.proofs.Losing.{none_some}
+use Rattle.s3_base.specs.declared.node_kind.Kind.{Kind}
 use Rattle.tree_laws.proofs.Lasting.{reached_sound}
 use Rattle.tree_laws.proofs.Nodes.{same_number}
 use Rattle.tree_laws.proofs.Passing.{all_pass, not_failed}
-use Rattle.tree_laws.proofs.Shape.{Leads}
+use Rattle.tree_laws.proofs.Shape.{Leads, NoneGoes, one_entry}
 use Rattle.tree_laws.proofs.Sounding.{sound_after}
 use Rattle.tree_laws.proofs.Standing.{Sound, folder_is}
 use Rattle.tree_laws.proofs.SubtreeShape.{lock_shape}
-use Rattle.tree_laws.proofs.TreeShape.{kind_in}
+use Rattle.tree_laws.proofs.TreeShape.{kind_in, entry_in, shape_of}
 use Rattle.tree_laws.proofs.Walked.{below_shape}
 
 pub entries_stay : (block_size time : ℕ) (calls more : List Request) (parent inode : ℕ) (name : List ℕ) (node : Node) → node_at (tree_after_all (made_tree block_size time) calls) inode ≡ Some node
@@ -37,15 +42,6 @@ pub entries_stay : (block_size time : ℕ) (calls more : List Request) (parent i
 entries_stay block_size time calls more parent inode name node is locked names spare =
     all_stay (tree_after_all (made_tree block_size time) calls) more parent inode name node
     (record { sound = reached_sound block_size time calls; is = is; locked = locked; names = names }) spare
-
--- calls without a removal spare every entry
-spares_one : (t : Tree) (p : ℕ) (n : List ℕ) (op : Op) → IsNoRemoval op → Spares t p n op
-spares_one t p n (ops.RemoveTree from by) none = absurd none
-spares_one t p n op none = _
-
-spare_all : (t : Tree) (p : ℕ) (n : List ℕ) (calls : List Request) → AreNoRemovals calls → AllSpare t p n calls
-spare_all t p n [] none = _
-spare_all t p n (call ∷ calls) none = (spares_one t p n call.op none.0, spare_all (tree_after t call.pass call.op call.now) p n calls none.1)
 
 -- ---- the nodes that a lock reaches
 
@@ -73,16 +69,6 @@ named_way : (t : Tree) (steps x : ℕ) → x ≢ root → Leads (entry_at t) ste
 named_way t zero x inner leads = absurd (inner leads)
 named_way t (suc steps) x inner leads = (leads.0, leads.1, leads.2)
 
-named_below : (t : Tree) → Sound t → (top : ℕ) → kind_in (node_at t top) ≡ Some kinds.Directory → top ≢ root → (x : ℕ) → is_at_or_below t top x ≡ true → (p : ℕ) × (n : List ℕ) × (entry_at t p n ≡ Some x)
-named_below t sound top folder inner x within =
-    elim ((below_shape t sound.names top).up x within) [
-      | inl same ↦
-          let way = sound.grown.leads top (λ no. no) folder in
-          let named = named_way t way.0 top inner way.1 in
-          (named.0, named.1, named.2 ∙ ap Some (sym same))
-      | inr from ↦ (from.0, from.1, from.3)
-    ]
-
 passes_if : (t : Tree) (pass now : ℕ) (op : Op) (failure : Option ℕ) → first_failure (checks t pass op) ≡ failure → reply_to t pass op now ≡ replies.Done → failure ≡ None
 passes_if t pass now op None is done = refl
 passes_if t pass now op (Some errno) is done =
@@ -94,37 +80,158 @@ not_root x passes same =
     let both_ways : true ≡ false = sym (eq-eqb x root same) ∙ not_failed 1 (x == root) passes in
     cc both_ways
 
-locked_by : (t : Tree) → Sound t → (more : List Request) (pass now top : ℕ) → reply_to t pass (ops.LockTree top) now ≡ replies.Done → AreNoRemovals more
+-- ---- a tree in which all at and below a directory is locked and as it was
+
+record Kept (t : Tree) (top q : ℕ) (m : List ℕ) (later : Tree) : Type 0 where
+  pub sound : Sound later
+  pub nodes : (x : ℕ) (node : Node) → is_at_or_below t top x ≡ true → node_at t x ≡ Some node → (time : ℕ) × (node_at later x ≡ Some (stamped time (record node { locked = true })))
+  pub name : entry_at later q m ≡ Some top
+
+entry_later : (t : Tree) (top q : ℕ) (m : List ℕ) (later : Tree) → Kept t top q m later → (p x : ℕ) (n : List ℕ) → is_at_or_below t top p ≡ true → entry_at t p n ≡ Some x → entry_at later p n ≡ Some x
+entry_later t top q m later keeps p x n within names =
+    let node = entry_some n x (node_at t p) names in
+    let kept = keeps.nodes p node.0 within node.1 in
+    ap (entry_in n) kept.1 ∙ node.2
+
+-- a removal in a locked directory is refused
+refused_there : (t : Tree) (top q : ℕ) (m : List ℕ) (later : Tree) → Kept t top q m later → (pass from : ℕ) (by : List ℕ) → first_failure (checks later pass (ops.RemoveTree from by)) ≡ None → (p x : ℕ) (n : List ℕ)
+    → is_at_or_below t top p ≡ true → entry_at t p n ≡ Some x → from ≡ p → ⊥
+refused_there t top q m later keeps pass from by passes p x n within names same =
+    let node = entry_some n x (node_at t p) names in
+    let kept = keeps.nodes p node.0 within node.1 in
+    let fails = first_of (checks later pass (ops.RemoveTree from by)) (refused later pass p (stamped kept.0 (record node.0 { locked = true })) kept.1 refl (ops.RemoveTree from by) same) in
+    none_some (first_failure (checks later pass (ops.RemoveTree from by))) fails.0 passes fails.1
+
+-- no directory inside is at or below one that is removed
+apart_from : (t : Tree) (top q : ℕ) (m : List ℕ) (later : Tree) → Sound t → Kept t top q m later → (pass from : ℕ) (by : List ℕ) → first_failure (checks later pass (ops.RemoveTree from by)) ≡ None → (r : ℕ)
+    → entry_at later from by ≡ Some r → is_at_or_below later r top ≡ false → (steps p : ℕ) → Leads (entry_at later) steps p → kind_in (node_at later p) ≡ Some kinds.Directory
+    → is_at_or_below t top p ≡ true → is_at_or_below later r p ≡ true → ⊥
+apart_from t top q m later sound keeps pass from by passes r is out zero p leads folder within removed =
+    elim (cases_eq p top) [
+      | inl same ↦ differ (is_at_or_below later r top) (ap (is_at_or_below later r) (sym same) ∙ removed) out
+      | inr apart ↦ elim ((below_shape t sound.names top).up p within) [
+        | inl same ↦ apart same
+        | inr above ↦ sound.grown.top above.0 above.1 (above.3 ∙ ap Some leads)
+      ]
+    ]
+apart_from t top q m later sound keeps pass from by passes r is out (suc steps) p leads folder within removed =
+    elim (cases_eq p top) [
+      | inl same ↦ differ (is_at_or_below later r top) (ap (is_at_or_below later r) (sym same) ∙ removed) out
+      | inr apart ↦ elim ((below_shape t sound.names top).up p within) [
+        | inl same ↦ apart same
+        | inr above ↦
+            let named : entry_at later above.0 above.1 ≡ Some p = entry_later t top q m later keeps above.0 p above.1 above.2 above.3 in
+            elim (cases_eq p r) [
+              | inl same ↦
+                  refused_there t top q m later keeps pass from by passes above.0 p above.1 above.2 above.3
+                  (keeps.sound.grown.once above.0 from p above.1 by folder named (is ∙ ap Some (sym same))).0
+              | inr differs ↦
+                  apart_from t top q m later sound keeps pass from by passes r is out steps leads.0 leads.3 (keeps.sound.grown.holds leads.0 p leads.1 leads.2)
+                  (ap (is_at_or_below t top) (keeps.sound.grown.once above.0 leads.0 p above.1 leads.1 folder named leads.2).0 ∙ above.2)
+                  (inside NoneGoes (shape_of later) r (is_among (at_and_below later r)) (below_shape later keeps.sound.names r) keeps.sound.grown leads.0 p leads.1 differs folder removed leads.2)
+            ]
+      ]
+    ]
+
+spares_inside : (t : Tree) (top q : ℕ) (m : List ℕ) (later : Tree) → Sound t → Kept t top q m later → (pass : ℕ) (op : Op) → SparesTree later top op → (p x : ℕ) (n : List ℕ) → is_at_or_below t top p ≡ true
+    → entry_at t p n ≡ Some x → first_failure (checks later pass op) ≡ None → Spares later p n op
+spares_inside t top q m later sound keeps pass (ops.RemoveTree from by) spares p x n within names passes =
+    let folder : kind_in (node_at later p) ≡ Some kinds.Directory = keeps.sound.grown.holds p x n (entry_later t top q m later keeps p x n within names) in
+    let way = keeps.sound.grown.leads p (λ no. no) folder in
+    λ r is. (
+      is_false (is_at_or_below later r p) (λ removed. apart_from t top q m later sound keeps pass from by passes r is (spares r is) way.0 p way.1 folder within removed),
+      λ place. refused_there t top q m later keeps pass from by passes p x n within names (sym place.0),
+    )
+spares_inside t top q m later sound keeps pass op spares p x n within names passes = _
+
+spares_first : (t : Tree) (top q : ℕ) (m : List ℕ) (later : Tree) → Kept t top q m later → (op : Op) → SparesTree later top op → Spares later q m op
+spares_first t top q m later keeps (ops.RemoveTree from by) spares = λ r is. (
+  is_false (is_at_or_below later r q) (λ removed. differ (is_at_or_below later r top) ((below_shape later keeps.sound.names r).down q top m removed keeps.name) (spares r is)),
+  λ place.
+      differ (is_at_or_below later r top)
+      (ap (is_at_or_below later r) (one_entry (entry_at later) from by q m r top place is keeps.name) ∙ (below_shape later keeps.sound.names r).itself) (spares r is),
+)
+spares_first t top q m later keeps op spares = _
+
+kept_on : (t : Tree) (top q : ℕ) (m : List ℕ) (later : Tree) → Sound t → kind_in (node_at t top) ≡ Some kinds.Directory → Kept t top q m later → (pass now : ℕ) (op : Op) → SparesTree later top op
+    → Kept t top q m (tree_after later pass op now)
+kept_on t top q m later sound folder keeps pass now op spares =
+    let next : Tree = tree_after later pass op now in
+    let first : (x : ℕ) (node : Node) → is_at_or_below t top x ≡ true → node_at t x ≡ Some node → x ≡ top → IsAsBefore q m x (record node { locked = true }) next =
+    λ x node within is same.
+    let old = keeps.nodes x node within is in
+    let one = one_stays later pass now op q x m (stamped old.0 (record node { locked = true })) (record { sound = keeps.sound; is = old.1; locked = refl; names = keeps.name ∙ ap Some (sym same) })
+    (λ passes. spares_first t top q m later keeps op spares) in
+    record { names = one.names; time = one.time; is = one.is } in
+    let top_node = kind_some (node_at t top) kinds.Directory folder in
+    record {
+      sound = sound_after later (record { pass = pass; now = now; op = op } ∷ []) keeps.sound;
+      nodes = λ x node within is.
+          elim ((below_shape t sound.names top).up x within) [
+            | inl same ↦
+                let one = first x node within is same in
+                (one.time, one.is)
+            | inr from ↦
+                let old = keeps.nodes x node within is in
+                let one = one_stays later pass now op from.0 x from.1 (stamped old.0 (record node { locked = true }))
+                (record { sound = keeps.sound; is = old.1; locked = refl; names = entry_later t top q m later keeps from.0 x from.1 from.2 from.3 })
+                (λ passes. spares_inside t top q m later sound keeps pass op spares from.0 x from.1 from.2 from.3 passes) in
+                (one.time, one.is)
+          ];
+      name = (first top top_node.0 (below_shape t sound.names top).itself top_node.1 refl).names;
+    }
+
+kept_all : (t : Tree) (top q : ℕ) (m : List ℕ) (later : Tree) (calls : List Request) → Sound t → kind_in (node_at t top) ≡ Some kinds.Directory → Kept t top q m later → AllSpareTree later top calls
+    → Kept t top q m (tree_after_all later calls)
+kept_all t top q m later [] sound folder keeps spare = keeps
+kept_all t top q m later (call ∷ calls) sound folder keeps spare =
+    kept_all t top q m (tree_after later call.pass call.op call.now) calls sound folder (kept_on t top q m later sound folder keeps call.pass call.now call.op spare.0) spare.1
+
+same_entries : (n : List ℕ) (found after : Option Node) (node : Node) (time : ℕ) → found ≡ Some node → after ≡ Some (stamped time (record node { locked = true })) → entry_in n after ≡ entry_in n found
+same_entries n found after node time was is = ap (entry_in n) is ∙ sym (ap (entry_in n) was)
+
+-- what lies at or below is there
+there_below : (t : Tree) → Sound t → (top : ℕ) → kind_in (node_at t top) ≡ Some kinds.Directory → (x : ℕ) → is_at_or_below t top x ≡ true → (k : Kind) × (kind_in (node_at t x) ≡ Some k)
+there_below t sound top folder x within =
+    elim ((below_shape t sound.names top).up x within) [
+      | inl same ↦ (kinds.Directory, ap (λ k. kind_in (node_at t k)) same ∙ folder)
+      | inr from ↦ sound.grown.there from.0 x from.1 from.3
+    ]
+
+locked_by : (t : Tree) → Sound t → (more : List Request) (pass now top : ℕ) → reply_to t pass (ops.LockTree top) now ≡ replies.Done → AllSpareTree (tree_after t pass (ops.LockTree top) now) top more
     → StaysLocked top t (tree_after_all (tree_after t pass (ops.LockTree top) now) more)
-locked_by t sound more pass now top done none =
+locked_by t sound more pass now top done spare =
     let op : Op = ops.LockTree top in
     let passes : first_failure (checks t pass op) ≡ None = passes_if t pass now op (first_failure (checks t pass op)) refl done in
     let all = all_pass (checks t pass op) passes in
     let folder : kind_in (node_at t top) ≡ Some kinds.Directory = folder_is (node_at t top) all.0 all.1.0 in
     let next : Tree = tree_after t pass op now in
+    let after : Tree = tree_after_all next more in
     let next_is : next ≡ with_lock top t = tree_at t pass now op None passes in
-    let sound_next : Sound next = sound_after t (record { pass = pass; now = now; op = op } ∷ []) sound in
-    let nodes : (x : ℕ) (node : Node) → is_at_or_below t top x ≡ true → node_at t x ≡ Some node → node_at next x ≡ Some (record node { locked = true }) =
-    λ x node within is. ap (λ (a : Tree). node_at a x) next_is ∙ locked_found (at_and_below t top) x t.nodes node within is in
-    let entries : (p x : ℕ) (n : List ℕ) → entry_at t p n ≡ Some x → entry_at next p n ≡ Some x = λ p x n names. ap (λ (a : Tree). entry_at a p n) next_is ∙ (lock_shape top t).entry p n ∙ names in
-    let stays : (p x : ℕ) (n : List ℕ) (node : Node) → is_at_or_below t top x ≡ true → node_at t x ≡ Some node → entry_at t p n ≡ Some x
-    → IsAsBefore p n x (record node { locked = true }) (tree_after_all next more) =
-    λ p x n node within is names.
-    all_stay next more p x n (record node { locked = true }) (record { sound = sound_next; is = nodes x node within is; locked = refl; names = entries p x n names })
-    (spare_all next p n more none) in
+    let keeps : (q : ℕ) (m : List ℕ) → entry_at t q m ≡ Some top → Kept t top q m after =
+    λ q m names.
+    kept_all t top q m next more sound folder
+    (record {
+      sound = sound_after t (record { pass = pass; now = now; op = op } ∷ []) sound;
+      nodes = λ x node within is. (node.ctime, ap (λ (a : Tree). node_at a x) next_is ∙ locked_found (at_and_below t top) x t.nodes node within is);
+      name = ap (λ (a : Tree). entry_at a q m) next_is ∙ (lock_shape top t).entry q m ∙ names;
+    })
+    spare in
+    let way = sound.grown.leads top (λ no. no) folder in
+    let named = named_way t way.0 top (not_root top all.1.1.0) way.1 in
+    let kept : Kept t top named.0 named.1 after = keeps named.0 named.1 named.2 in
     record {
-      nodes = λ x node within is.
-          let named = named_below t sound top folder (not_root top all.1.1.0) x within in
-          let kept = stays named.0 x named.1 node within is named.2 in
-          (kept.time, kept.is);
-      entries = λ p x n within names.
-          let there = sound.grown.there p x n names in
-          let node = kind_some (node_at t x) there.0 there.1 in
-          (stays p x n node.0 within node.1 names).names;
+      nodes = kept.nodes;
+      entries = λ p n within.
+          let there = there_below t sound top folder p within in
+          let node = kind_some (node_at t p) there.0 there.1 in
+          let later = kept.nodes p node.0 within node.1 in
+          same_entries n (node_at t p) (node_at after p) node.0 later.0 node.1 later.1;
+      its_name = λ q m names. (keeps q m names).name;
     }
 
 pub trees_stay : (block_size time : ℕ) (calls more : List Request) (pass now inode : ℕ) → reply_to (tree_after_all (made_tree block_size time) calls) pass (ops.LockTree inode) now ≡ replies.Done
-    → AreNoRemovals more
+    → AllSpareTree (tree_after (tree_after_all (made_tree block_size time) calls) pass (ops.LockTree inode) now) inode more
     → StaysLocked inode (tree_after_all (made_tree block_size time) calls) (tree_after_all (tree_after (tree_after_all (made_tree block_size time) calls) pass (ops.LockTree inode) now) more)
-trees_stay block_size time calls more pass now inode done none =
-    locked_by (tree_after_all (made_tree block_size time) calls) (reached_sound block_size time calls) more pass now inode done none
+trees_stay block_size time calls more pass now inode done spare =
+    locked_by (tree_after_all (made_tree block_size time) calls) (reached_sound block_size time calls) more pass now inode done spare

@@ -18,14 +18,15 @@ abbrev pub AllSpare : Tree → ℕ → List ℕ → List Request → Type 0
 AllSpare t parent name [] = Unit {0}
 AllSpare t parent name (call ∷ calls) = Spares t parent name call.op × AllSpare (tree_after t call.pass call.op call.now) parent name calls
 
--- the operation is no RemoveTree
-abbrev pub IsNoRemoval : Op → Type 0
-IsNoRemoval (ops.RemoveTree parent name) = ⊥
-IsNoRemoval op = Unit {0}
+-- the operation is no RemoveTree of the directory, or of one above it
+abbrev pub SparesTree : Tree → ℕ → Op → Type 0
+SparesTree t inode (ops.RemoveTree from by) = (top : ℕ) → entry_at t from by ≡ Some top → is_at_or_below t top inode ≡ false
+SparesTree t inode op = Unit {0}
 
-abbrev pub AreNoRemovals : List Request → Type 0
-AreNoRemovals [] = Unit {0}
-AreNoRemovals (call ∷ calls) = IsNoRemoval call.op × AreNoRemovals calls
+-- each of the calls spares the directory in the tree that it finds
+abbrev pub AllSpareTree : Tree → ℕ → List Request → Type 0
+AllSpareTree t inode [] = Unit {0}
+AllSpareTree t inode (call ∷ calls) = SparesTree t inode call.op × AllSpareTree (tree_after t call.pass call.op call.now) inode calls
 
 -- the entry names the inode, whose node is as it was but for ctime
 pub record IsAsBefore (parent : ℕ) (name : List ℕ) (inode : ℕ) (node : Node) (after : Tree) : Type 0 where
@@ -33,8 +34,10 @@ pub record IsAsBefore (parent : ℕ) (name : List ℕ) (inode : ℕ) (node : Nod
   pub time : ℕ
   pub is : node_at after inode ≡ Some (stamped time node)
 
--- all at and below an inode is as it was but for ctime, and locked, and so are the entries that name it
+-- all at and below a directory is as it was but for ctime, and locked; the directories have the same entries, no more and no
+-- less, and the entry that names the first of them is there
 pub record StaysLocked (top : ℕ) (t after : Tree) : Type 0 where
   pub nodes : (inode : ℕ) (node : Node) → is_at_or_below t top inode ≡ true → node_at t inode ≡ Some node
       → (time : ℕ) × (node_at after inode ≡ Some (stamped time (record node { locked = true })))
-  pub entries : (parent inode : ℕ) (name : List ℕ) → is_at_or_below t top inode ≡ true → entry_at t parent name ≡ Some inode → entry_at after parent name ≡ Some inode
+  pub entries : (parent : ℕ) (name : List ℕ) → is_at_or_below t top parent ≡ true → entry_at after parent name ≡ entry_at t parent name
+  pub its_name : (parent : ℕ) (name : List ℕ) → entry_at t parent name ≡ Some top → entry_at after parent name ≡ Some top

@@ -9,7 +9,7 @@ ghost use Rattle.plain_tree.specs.Entries.{entry_at};
 ghost use Rattle.plain_tree.specs.Operations.{reply_to, tree_after};
 ghost use Rattle.plain_tree.specs.Calls.{tree_after_all};
 ghost use Rattle.tree_laws.specs.Locks.{WouldChange, IsKept};
-ghost use Rattle.tree_laws.specs.LockedTrees.{AllSpare, IsAsBefore, AreNoRemovals, StaysLocked};
+ghost use Rattle.tree_laws.specs.LockedTrees.{AllSpare, AllSpareTree, IsAsBefore, StaysLocked};
 ghost use Rattle.tree_laws.specs.Numbers.{InOrder};
 
 /// A locked node refuses what would change it: its mode, owner, times, bytes or attributes, an entry in it, or the entry that
@@ -36,10 +36,10 @@ pub fn locked_entries_stay()
 {}
 
 /// Whatever calls come after the making, once a LockTree is answered Done, all at and below its inode stays as it is but for
-/// ctime, under the same names, through all further calls without a RemoveTree.
+/// ctime, with the same names, through all further calls but a RemoveTree of it, or of a directory above it.
 pub fn locked_trees_stay()
     ensures { (block_size time : ℕ) (calls more : List Request) (pass now inode : ℕ) → reply_to (tree_after_all (made_tree block_size time) calls) pass (ops.LockTree inode) now ≡ replies.Done
-        → AreNoRemovals more
+        → AllSpareTree (tree_after (tree_after_all (made_tree block_size time) calls) pass (ops.LockTree inode) now) inode more
         → StaysLocked inode (tree_after_all (made_tree block_size time) calls)
         (tree_after_all (tree_after (tree_after_all (made_tree block_size time) calls) pass (ops.LockTree inode) now) more) }
 {}
