@@ -1,0 +1,5 @@
+//! A store of the metadata tables in memory.
+#![tactic(auto)]
+
+mod keyed;
+mod sorted;
