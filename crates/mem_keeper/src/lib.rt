@@ -3,3 +3,4 @@
 
 mod keyed;
 mod sorted;
+mod store;

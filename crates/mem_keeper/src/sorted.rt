@@ -6,6 +6,7 @@ ghost use Rattle.std.specs.List.Sorted.{IsSearchInRange};
 ghost use Rattle.mem_keeper.specs.Places.{Stands, GoesAt};
 
 use crate::keyed::Keyed;
+use std::mem::replace;
 
 /// Where the row of a key is, or where it would go.
 fn place<R: Keyed>(rows: &[R], key: R::Key) -> Result<usize, usize>
@@ -28,6 +29,23 @@ pub(crate) fn row_of<R: Keyed>(rows: &[R], key: R::Key) -> Option<&R>
     }
 }
 
+/// Puts a row at its place, and gives the row of its key that stood there.
+pub(crate) fn replace_row<R: Keyed>(rows: &mut Vec<R>, row: R) -> Option<R>
+    requires rises { IsTrue (rises (record { compare = R.Key.cmp; key = R.key }) rows.old.items) }
+    requires room { vec_len rows.old < vec_capacity rows.old }
+    ensures rows { rows.new.items ≡ put (record { compare = R.Key.cmp; key = R.key }) row rows.old.items }
+    ensures capacity { vec_capacity rows.old ≤ vec_capacity rows.new }
+    ensures len { vec_len rows.new ≤ vec_len rows.old + 1 }
+{
+    match place(rows, row.key()) {
+        Ok(at) => Some(replace(&mut rows[at], row)),
+        Err(at) => {
+            let _ = rows.insert(at, row);
+            None
+        }
+    }
+}
+
 /// Puts a row at its place, instead of the row of its key.
 pub(crate) fn put_row<R: Keyed>(rows: &mut Vec<R>, row: R)
     requires rises { IsTrue (rises (record { compare = R.Key.cmp; key = R.key }) rows.old.items) }
@@ -36,11 +54,19 @@ pub(crate) fn put_row<R: Keyed>(rows: &mut Vec<R>, row: R)
     ensures capacity { vec_capacity rows.old ≤ vec_capacity rows.new }
     ensures len { vec_len rows.new ≤ vec_len rows.old + 1 }
 {
-    match place(rows, row.key()) {
-        Ok(at) => rows[at] = row,
-        Err(at) => {
-            let _ = rows.insert(at, row);
-        }
+    let _ = replace_row(rows, row);
+}
+
+/// Takes the row of a key out and gives it.
+pub(crate) fn take_row<R: Keyed>(rows: &mut Vec<R>, key: R::Key) -> Option<R>
+    requires rises { IsTrue (rises (record { compare = R.Key.cmp; key = R.key }) rows.old.items) }
+    ensures rows { rows.new.items ≡ without (record { compare = R.Key.cmp; key = R.key }) key rows.old.items }
+    ensures capacity { vec_capacity rows.old ≤ vec_capacity rows.new }
+    ensures len { vec_len rows.new ≤ vec_len rows.old }
+{
+    match place(rows, key) {
+        Ok(at) => Some(rows.remove(at)),
+        Err(_) => None,
     }
 }
 
@@ -51,10 +77,5 @@ pub(crate) fn remove_row<R: Keyed>(rows: &mut Vec<R>, key: R::Key)
     ensures capacity { vec_capacity rows.old ≤ vec_capacity rows.new }
     ensures len { vec_len rows.new ≤ vec_len rows.old }
 {
-    match place(rows, key) {
-        Ok(at) => {
-            let _ = rows.remove(at);
-        }
-        Err(_) => {}
-    }
+    let _ = take_row(rows, key);
 }

@@ -2,7 +2,7 @@ use Rattle.std.proofs.Common.{sym}
 use Rattle.s3_rows.specs.Keyed.{Order}
 use Rattle.mem_keeper.specs.Places.{Stands, GoesAt}
 use Rattle.mem_keeper.proofs.Place.{without_at, none_in_gap}
-use Rattle.mem_keeper.proofs.sorted.remove_row.Goals as goal
+use Rattle.mem_keeper.proofs.sorted.take_row.Goals as goal
 
 pub returns-in-Ok-clause-rows : goal.returns-in-Ok-clause-rows
 returns-in-Ok-clause-rows g c =
