@@ -1,3 +1,4 @@
+pub mod Index
 pub mod Memory
 pub mod Places
 pub mod Store
