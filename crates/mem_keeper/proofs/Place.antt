@@ -11,7 +11,7 @@ use Rattle.std.proofs.lemmas.Cmp.{tied_back, alike_right}
 use Rattle.mem_keeper.specs.Places.{Stands, GoesAt}
 use Rattle.s3_rows.specs.Keyed.{Order, is_past, has_key, rises, put, without, row_at}
 
-is_less : (v : Ordering) → is_lt v ≡ true → v ≡ Less
+pub is_less : (v : Ordering) → is_lt v ≡ true → v ≡ Less
 is_less Less e = refl
 is_less Equal e = absurd (false≢true e)
 is_less Greater e = absurd (false≢true e)

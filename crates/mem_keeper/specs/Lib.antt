@@ -1,4 +1,5 @@
 pub mod Index
+pub mod Indexes
 pub mod Memory
 pub mod Places
 pub mod Store

@@ -2,6 +2,8 @@
 #![tactic(auto)]
 
 mod index;
+mod indexes;
 mod keyed;
+mod look_ups;
 mod sorted;
 mod store;
