@@ -1,7 +1,7 @@
 -- The least id whose row has some bytes is that of the first such row.
-use Rattle.std.proofs.Common.{◌≡◌, ◌≢◌, ℕ, ◌<◌, ◌≤◌, List, [], ◌∷◌, ◌++◌, Bool, true, false, not, ◌&&◌, ◌||◌, ◌==◌, IsTrue, Option, Some, None, find, min, cond, refl, sym, ap, ◌∙◌, subst, arith}
+use Rattle.std.proofs.Common.{◌≡◌, ◌≢◌, ℕ, ◌<◌, ◌≤◌, List, [], ◌∷◌, ◌++◌, Bool, true, false, not, ◌&&◌, ◌||◌, ◌==◌, IsTrue, Option, Some, None, find, cond, All, take, length, get_or, ◌+◌, refl, sym, ap, ◌∙◌, subst, arith}
 use mathlib.Core.Logic.{◌⊎◌, ⊎_elim}
-use Rattle.std.specs.List.{list_any, list_all}
+use Rattle.std.specs.List.{list_any, list_all, AllByRecursion}
 use Rattle.std.specs.Option.{IsSomeAnd}
 use Rattle.std.specs.declared.cmp.Ordering.{Ordering}
 use Rattle.std.specs.declared.cmp.Ordering.TheVariants.{Less, Equal, Greater}
@@ -9,12 +9,17 @@ use Rattle.std.specs.Ordering.{is_lt, is_eq, nat_cmp, MatchOrdering, ordering_re
 use Rattle.std.specs.Cmp.{IsTotalOrder, nat_cmp_total}
 use Rattle.std.proofs.lemmas.Bool.{and_parts, false≢true, true≢false, or_cases, eqb-true, both_ways}
 use Rattle.std.proofs.lemmas.Cmp.{ranked, tied_itself, alike_right}
+use Rattle.std.proofs.lemmas.List.Elements.{All-more}
 use Rattle.std.proofs.lemmas.Map.Text.{is_eq-slice_cmp}
 use Rattle.std.specs.Cmp.Lexicographic.{bytes_decides}
 use Rattle.s3_rows.specs.Keyed.{Order, rises, row_at, is_past, has_key}
 use Rattle.mem_keeper.specs.declared.index.Index.{Index}
 use Rattle.mem_keeper.specs.Index.{has_id, IsLeast, Covers, IsListed, has_bytes, row_has_bytes}
 use Rattle.mem_keeper.proofs.Place.{is_less, rest_rises, first_below}
+
+-- what holds of the elements so far holds of one more
+pub all_step : {X : Type 0} (P Q : X → Type 0) (xs : List X) (i : ℕ) (x : X) → i < length xs → ((y : X) → P y → Q y) → All P (take i xs) → x ≡ get_or xs i x → Q x → All Q (take (i + 1) xs)
+all_step P Q xs i x lt weaker all same here = All-more Q xs i x lt (λ k d below. weaker _ (all k d below)) (subst Q same here)
 
 module _ {R : Type 0} (key : R → ℕ) where
   abbrev by_key : Order ℕ R
@@ -56,7 +61,7 @@ module _ {R : Type 0} (key : R → ℕ) where
         | Greater ↦ λ e. h
       ]) refl
 
-  first_row : (x : R) (xs : List R) → row_at by_key (key x) (x ∷ xs) ≡ Some x
+  pub first_row : (x : R) (xs : List R) → row_at by_key (key x) (x ∷ xs) ≡ Some x
   first_row x xs = rw (tied_itself nat_cmp_total (key x)) refl
 
   cases_false : (b : Bool) → (b ≡ true → ⊥) → b ≡ false
@@ -101,3 +106,22 @@ module _ {R : Type 0} (key : R → ℕ) where
         | None ↦ λ e. absurd (false≢true (ap (λ v. elim v [ None ↦ false | Some r ↦ has_bytes bytes wanted r ]) e ∙ h.0))
         | Some found ↦ λ e. sym (find_least (has_bytes bytes wanted) rows least found up (sym e) (ap (λ v. elim v [ None ↦ false | Some r ↦ has_bytes bytes wanted r ]) e ∙ h.0) (λ id r there same_bytes. h.1 id (listed_id bytes x rows wanted ids covers all id r there same_bytes) (passing bytes rows wanted id r there same_bytes)))
       ]) refl
+
+  -- a test of the row of an id by bytes that failed: no row there has the bytes
+  pub not_these : (bytes : R → List ℕ) (rows : List R) (wanted : List ℕ) (own id : ℕ) (r : R) → row_has_bytes by_key bytes rows wanted own ≡ false → row_at by_key id rows ≡ Some r → bytes r ≡ wanted → id ≡ own → ⊥
+  not_these bytes rows wanted own id r fails there same here =
+      let has : has_bytes bytes wanted r ≡ true = is_eq-slice_cmp (bytes r) wanted ∙ (bytes_decides (bytes r) wanted).1 same in
+      true≢false (sym (passing bytes rows wanted id r there has) ∙ subst (λ n. row_has_bytes by_key bytes rows wanted n ≡ false) (sym here) fails)
+
+  -- what all rows meet, the row of an id meets
+  pub row_meets : (P : R → Type 0) (id : ℕ) (rows : List R) (r : R) → AllByRecursion P rows → row_at by_key id rows ≡ Some r → P r
+  row_meets P id [] r all h = absurd (cc)
+  row_meets P id (x ∷ xs) r all h =
+      (elim (has_key by_key id x) as (λ v. cond v (Some x) (row_at by_key id xs) ≡ Some r → P r) [
+        | true ↦ λ f. let same : x ≡ r = cc in subst P same all.0
+        | false ↦ λ f. row_meets P id xs r all.1 f
+      ]) h
+
+  -- all rows are listed
+  pub covers_all : (bytes : R → List ℕ) (x : Index) (rows : List R) → AllByRecursion (λ r. IsListed x (bytes r) (key r)) rows → Covers by_key bytes x rows
+  covers_all bytes x rows all id r there = subst (IsListed x (bytes r)) (row_has_id id rows r there) (row_meets (λ s. IsListed x (bytes s) (key s)) id rows r all there)

@@ -1,9 +1,13 @@
 //! A store of the metadata tables in memory.
 #![tactic(auto)]
 
+mod commit;
 mod index;
 mod indexes;
 mod keyed;
 mod look_ups;
+mod memory;
 mod sorted;
 mod store;
+
+pub use memory::MemKeeper;
