@@ -1,21 +1,19 @@
 -- How a batch keeps the indexes.
-use Rattle.std.proofs.Common.{◌≡◌, ◌≢◌, ℕ, List, [], ◌∷◌, Bool, true, false, not, Option, Some, None, find, filter, cond, refl, sym, ap, ◌∙◌, subst, arith}
+use Rattle.std.proofs.Common.{◌≡◌, ℕ, List, [], ◌∷◌, Bool, true, false, not, Some, filter, cond, refl, sym, subst}
 use Rattle.std.specs.List.{AllByRecursion}
-use Rattle.std.specs.declared.cmp.Ordering.{Ordering}
 use Rattle.std.specs.declared.cmp.Ordering.TheVariants.{Less, Equal, Greater}
 use Rattle.std.specs.Ordering.{is_eq, nat_cmp}
 use Rattle.std.specs.Cmp.{IsTotalOrder, nat_cmp_total}
 use Rattle.s3_rows.specs.declared.change.Change.{Change}
 use Rattle.s3_rows.specs.declared.change.Change.TheVariants as changes
 use Rattle.std.proofs.lemmas.Cmp.{ranked, then_total, on_total}
-use Rattle.s3_rows.specs.Keyed.{Order, pair_cmp, put, without, row_at, has_key, rises}
+use Rattle.s3_rows.specs.Keyed.{Order, pair_cmp, put, row_at, has_key, rises}
 use Rattle.s3_rows.specs.Tables.{Tables, IsOrdered, by_inode, by_name, by_entry, by_spot, by_block, by_object, by_target, by_attr, by_slot}
 use Rattle.mem_keeper.proofs.Place.{rises-put, rises-without, rest_rises}
 use Rattle.mem_keeper.proofs.Least.{first_row, later_row}
 use Rattle.s3_rows.specs.Batches.{after_change, tables_after}
 use Rattle.mem_keeper.specs.declared.indexes.Indexes.{Indexes}
-use Rattle.mem_keeper.specs.declared.index.Index.{Index}
-use Rattle.mem_keeper.specs.Index.{IsListed, Covers}
+use Rattle.mem_keeper.specs.Index.{IsListed}
 use Rattle.mem_keeper.specs.Indexes.{Stand, IsListedChange, StayListed}
 
 pub change_stays : (x y : Indexes) → StayListed x y → (c : Change) → IsListedChange x c → IsListedChange y c

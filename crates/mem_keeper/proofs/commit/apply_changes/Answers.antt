@@ -1,7 +1,6 @@
-use Rattle.std.proofs.Common.{◌≡◌, ◌+◌, ◌++◌, [], ◌∷◌, length, reverse, sym, ap, ◌∙◌, subst, arith, length-append}
+use Rattle.std.proofs.Common.{◌≡◌, ◌++◌, [], ◌∷◌, length, reverse, ap, ◌∙◌, subst, length-append}
 use Rattle.std.proofs.lemmas.List.{reverse-append}
-use Rattle.s3_rows.specs.Tables.{IsOrdered}
-use Rattle.s3_rows.specs.Batches.{tables_after, after_change}
+use Rattle.s3_rows.specs.Batches.{tables_after}
 use Rattle.mem_keeper.specs.Store.{tables_of, HasRoom}
 use Rattle.mem_keeper.proofs.Standing.{ordered_after}
 use Rattle.mem_keeper.proofs.commit.apply_changes.Goals as goal
