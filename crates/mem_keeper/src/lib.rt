@@ -1,10 +1,12 @@
 //! A store of the metadata tables in memory.
 #![tactic(auto)]
 
+mod calls;
 mod commit;
 mod index;
 mod indexes;
 mod keyed;
+mod listing;
 mod look_ups;
 mod memory;
 mod sorted;

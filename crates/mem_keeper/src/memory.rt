@@ -11,13 +11,13 @@ use std::marker::Model;
 /// A store of tables in memory, whose calls of stated numbers fail. It tells its tables and the batches that were committed.
 #[derive(Debug, Drop)]
 pub struct MemKeeper {
-    store: Store,
-    indexes: Indexes,
-    batches: Vec<Batch>,
-    calls: u64,
-    fails: NumberList,
-    faults: u64,
-    alloc: Global,
+    pub(crate) store: Store,
+    pub(crate) indexes: Indexes,
+    pub(crate) batches: Vec<Batch>,
+    pub(crate) calls: u64,
+    pub(crate) fails: NumberList,
+    pub(crate) faults: u64,
+    pub(crate) alloc: Global,
 }
 
 impl Model for MemKeeper {
