@@ -1,5 +1,5 @@
 -- How a batch keeps the indexes.
-use Rattle.std.proofs.Common.{◌≡◌, ℕ, List, [], ◌∷◌, Bool, true, false, not, Some, filter, cond, refl, sym, subst}
+use Rattle.std.proofs.Common.{Result, Ok, Err, IfOk, ◌≡◌, ℕ, List, [], ◌∷◌, Bool, true, false, not, Some, filter, cond, refl, sym, subst}
 use Rattle.std.specs.List.{AllByRecursion}
 use Rattle.std.specs.declared.cmp.Ordering.TheVariants.{Less, Equal, Greater}
 use Rattle.std.specs.Ordering.{is_eq, nat_cmp}
@@ -109,3 +109,8 @@ stand_after x _ t up h listed = record { names = h.names; blocks = h.blocks }
 pub stand_after_all : (x : Indexes) (cs : List Change) (t : Tables) → IsOrdered t → Stand x t → AllByRecursion (IsListedChange x) cs → Stand x (tables_after cs t)
 stand_after_all x [] t up h all = h
 stand_after_all x (c ∷ cs) t up h all = stand_after_all x cs (after_change c t) (ordered_after c t up) (stand_after x c t up h all.0) all.1
+
+-- what follows of the value of an `Ok`
+pub if_ok_at : {X E : Type 0} (r : Result X E) (P Q : X → Type 0) → ((x : X) → P x → Q x) → IfOk r P → IfOk r Q
+if_ok_at (Ok x) P Q f h = f x h
+if_ok_at (Err e) P Q f h = tt

@@ -1,16 +1,17 @@
 //! The indexes of names and blocks, and how a batch keeps them.
-ghost use Rattle.std.specs.Prelude.{◌≡◌, false, IsTrue, OnOk, All};
+ghost use Rattle.std.specs.Prelude.{◌≡◌, false, option_map, IsTrue, IfOk, OnOk, All};
 ghost use Rattle.std.specs.Ordering.{nat_cmp};
 ghost use Rattle.s3_rows.specs.Keyed.{rises};
 ghost use Rattle.s3_rows.specs.Tables.{by_name, by_block, IsOrdered};
+ghost use Rattle.s3_rows.specs.Selections.{name_of_bytes, block_of_digest};
 ghost use Rattle.mem_keeper.specs.Index.{Covers};
 ghost use Rattle.mem_keeper.specs.Indexes.{Stand, IsListedChange, StayListed};
 ghost use Rattle.mem_keeper.specs.Store.{tables_of};
 
 use crate::index::Index;
-use crate::look_ups::{Indexed, has_bytes};
+use crate::look_ups::{Indexed, block_of_digest_of, has_bytes, name_id_of};
 use crate::store::{Gone, Store};
-use s3_rows::Change;
+use s3_rows::{BlockRow, Change, Digest};
 use std::alloc::{AllocError, Global};
 
 /// Indexes of the names by their bytes and of the blocks by their digests. They may not stand yet.
@@ -59,6 +60,38 @@ pub(crate) fn build(indexes: &mut Indexes, alloc: Global, store: &Store) -> Resu
     list_rows(&mut indexes.blocks, alloc, &store.blocks)?;
     indexes.stand = true;
     Ok(())
+}
+
+/// The least id of a name with these bytes. It builds the indexes where they do not stand.
+pub(crate) fn name_id_in(
+    indexes: &mut Indexes,
+    alloc: Global,
+    store: &Store,
+    name: &[u8],
+) -> Result<Option<u64>, AllocError>
+    requires ordered { IsOrdered (tables_of store.now) }
+    requires standing { IsTrue indexes.old.stand → Stand indexes.old (tables_of store.now) }
+    ensures row { IfOk result (λ r. r ≡ option_map (λ n. n.id) (name_of_bytes (tables_of store.now) name.now)) }
+    ensures standing { IsTrue indexes.new.stand → Stand indexes.new (tables_of store.now) }
+{
+    build(indexes, alloc, store)?;
+    Ok(name_id_of(&indexes.names, &store.names, name))
+}
+
+/// The block of the least id with this digest. It builds the indexes where they do not stand.
+pub(crate) fn block_of_digest_in(
+    indexes: &mut Indexes,
+    alloc: Global,
+    store: &Store,
+    digest: &Digest,
+) -> Result<Option<BlockRow>, AllocError>
+    requires ordered { IsOrdered (tables_of store.now) }
+    requires standing { IsTrue indexes.old.stand → Stand indexes.old (tables_of store.now) }
+    ensures row { IfOk result (λ r. r ≡ block_of_digest (tables_of store.now) digest.now) }
+    ensures standing { IsTrue indexes.new.stand → Stand indexes.new (tables_of store.now) }
+{
+    build(indexes, alloc, store)?;
+    Ok(block_of_digest_of(&indexes.blocks, &store.blocks, digest))
 }
 
 // Lists the row that a change puts.

@@ -5,10 +5,12 @@ mod calls;
 mod commit;
 mod index;
 mod indexes;
+mod keeper;
 mod keyed;
 mod listing;
 mod look_ups;
 mod memory;
+mod pages;
 mod sorted;
 mod store;
 
