@@ -3,8 +3,9 @@ use Rattle.std.specs.Prelude.{◌≤◌, ℕ, suc, nat_lt, length, IsTrue, List,
 use Rattle.std.specs.Bool.{IsFalse}
 use Rattle.std.specs.List.Sorted.{IsPartitionPoint}
 use Rattle.std.specs.Ordering.{is_gt, nat_cmp, ordering_then}
+use Rattle.std.specs.declared.cmp.Ordering.TheVariants.{Less, Equal, Greater}
 use Rattle.s3_rows.specs.Rows.{Content, Name}
-use Rattle.s3_rows.specs.Keyed.{Order, is_past, put, row_at}
+use Rattle.s3_rows.specs.Keyed.{Order, is_past, row_at}
 use Rattle.s3_rows.specs.Tables.{by_name}
 use Rattle.s3_rows.specs.Selections.{bytes_cmp}
 
@@ -21,10 +22,15 @@ place_in o k (x ∷ xs) = if is_gt (o.compare k (o.key x)) then suc (place_in o 
 abbrev pub with_name : {R T : Type 0} → (R → ℕ) → (R → List ℕ → T) → List Name → R → Option T
 with_name id_of made names r = option_map (λ n. made r n.name) (row_at by_name (id_of r) names)
 
--- the least items past a key, with one more
+-- at its place in the order, unless an item of its key stands there
+abbrev pub put_behind : {K T : Type 0} → Order K T → T → List T → List T
+put_behind o r [] = r ∷ []
+put_behind o r (x ∷ xs) = elim (o.compare (o.key r) (o.key x)) [ Less ↦ r ∷ x ∷ xs | Equal ↦ x ∷ xs | Greater ↦ x ∷ put_behind o r xs ]
+
+-- the least items past a key, with one more behind them
 abbrev pub kept : {K T : Type 0} → Order K T → K → ℕ → Option T → List T → List T
 kept o after max None items = items
-kept o after max (Some x) items = if is_past o after x then take max (put o x items) else items
+kept o after max (Some x) items = if is_past o after x then take max (put_behind o x items) else items
 
 -- the numbers of the names before the place are lower, and the others are not
 abbrev pub IsPlaceOf : ℕ → List Name → ℕ → Type 0

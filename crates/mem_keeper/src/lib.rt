@@ -13,5 +13,7 @@ mod memory;
 mod pages;
 mod sorted;
 mod store;
+#[cfg(test)]
+mod tests;
 
 pub use memory::MemKeeper;

@@ -4,11 +4,11 @@ ghost use Rattle.std.specs.List.{list_all};
 ghost use Rattle.std.specs.Ordering.{is_gt};
 ghost use Rattle.s3_rows.specs.declared.lists.NamedAttr.{NamedAttr};
 ghost use Rattle.s3_rows.specs.declared.lists.NamedEntry.{NamedEntry};
-ghost use Rattle.s3_rows.specs.Keyed.{has_key, put, rises, row_at, rows_past, sorted_by};
+ghost use Rattle.s3_rows.specs.Keyed.{has_key, rises, row_at, rows_past, sorted_by};
 ghost use Rattle.s3_rows.specs.Tables.{Tables, by_attr, by_entry, by_name};
 ghost use Rattle.s3_rows.specs.Selections.{attrs_listed, by_attr_name, by_entry_name, bytes_cmp, entries_listed};
 ghost use Rattle.s3_rows.specs.Told.{has_short_name, is_page};
-ghost use Rattle.mem_keeper.specs.Listing.{IsPlaceOf, by_bytes, kept, place_in, with_name};
+ghost use Rattle.mem_keeper.specs.Listing.{IsPlaceOf, by_bytes, kept, place_in, put_behind, with_name};
 
 use s3_base::{ByteList, Sequence};
 use s3_rows::{AttrRow, ContentRow, EntryList, NameRow, NamedAttr, NamedAttrList, NamedEntry};
@@ -214,13 +214,12 @@ fn stands_at<T: Named>(items: &[T], place: usize, name: &ByteList) -> bool
     place < items.len() && name.cmp(items[place].name()).is_eq()
 }
 
-/// Puts an item at its place, or in place of the item of its name.
+/// Puts an item at its place, unless an item of its name stands there.
 fn put_named<T: Named>(items: &mut Vec<T>, place: usize, item: T) -> Result<(), AllocError>
     requires { place ≡ place_in (by_bytes T.name_of) (T.name_of item) items.old.items }
-    ensures { OnOk result (items.new.items ≡ put (by_bytes T.name_of) item items.old.items) }
+    ensures { OnOk result (items.new.items ≡ put_behind (by_bytes T.name_of) item items.old.items) }
 {
     if stands_at(items.as_slice(), place, item.name()) {
-        items[place] = item;
         return Ok(());
     }
     items.insert(place, item)?;
@@ -270,10 +269,8 @@ fn least_named<R, T: NamedFrom<R>>(
     ensures page { IfOk result (λ l. IsTrue (is_page (by_bytes T.name_of) after.now max l && list_all (λ x. has_short_name (T.name_of x)) l)) }
 {
     let mut items = Vec::new(alloc);
-    let mut left = rows.len();
-    while left > 0 {
-        left -= 1;
-        keep_named(&mut items, &rows[left], names, after, max as usize)?;
+    for row in rows {
+        keep_named(&mut items, row, names, after, max as usize)?;
     }
     Ok(Sequence::from(items))
 }

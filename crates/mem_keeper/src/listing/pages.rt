@@ -181,6 +181,7 @@ fn page_of_rows<T: TableRow>(
     Ok(page)
 }
 
+/// The first `max` inodes past a key, in the order of their keys.
 pub fn page_of_inodes(
     alloc: Global,
     rows: &[InodeRow],
@@ -194,6 +195,7 @@ pub fn page_of_inodes(
     page_of_rows(alloc, rows, after, max)
 }
 
+/// The first `max` names past a key, in the order of their keys.
 pub fn page_of_names(
     alloc: Global,
     rows: &[NameRow],
@@ -207,6 +209,7 @@ pub fn page_of_names(
     page_of_rows(alloc, rows, after, max)
 }
 
+/// The first `max` entries past a key, in the order of their keys.
 pub fn page_of_contents(
     alloc: Global,
     rows: &[ContentRow],
@@ -220,6 +223,7 @@ pub fn page_of_contents(
     page_of_rows(alloc, rows, after, max)
 }
 
+/// The first `max` blocks of files past a key, in the order of their keys.
 pub fn page_of_inode_blocks(
     alloc: Global,
     rows: &[InodeBlockRow],
@@ -233,6 +237,7 @@ pub fn page_of_inode_blocks(
     page_of_rows(alloc, rows, after, max)
 }
 
+/// The first `max` blocks past a key, in the order of their keys.
 pub fn page_of_blocks(
     alloc: Global,
     rows: &[BlockRow],
@@ -246,6 +251,7 @@ pub fn page_of_blocks(
     page_of_rows(alloc, rows, after, max)
 }
 
+/// The first `max` objects past a key, in the order of their keys.
 pub fn page_of_objects(
     alloc: Global,
     rows: &[ObjectRow],
@@ -259,6 +265,7 @@ pub fn page_of_objects(
     page_of_rows(alloc, rows, after, max)
 }
 
+/// The first `max` targets of links past a key, in the order of their keys.
 pub fn page_of_targets(
     alloc: Global,
     rows: &[TargetRow],
@@ -272,6 +279,7 @@ pub fn page_of_targets(
     page_of_rows(alloc, rows, after, max)
 }
 
+/// The first `max` attributes past a key, in the order of their keys.
 pub fn page_of_attrs(
     alloc: Global,
     rows: &[AttrRow],
@@ -285,6 +293,7 @@ pub fn page_of_attrs(
     page_of_rows(alloc, rows, after, max)
 }
 
+/// The first `max` slots past a key, in the order of their keys.
 pub fn page_of_slots(
     alloc: Global,
     rows: &[SlotRow],

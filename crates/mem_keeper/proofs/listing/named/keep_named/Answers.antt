@@ -7,7 +7,7 @@ use Rattle.s3_rows.specs.Tables.{by_name}
 use Rattle.s3_rows.specs.Told.{has_short_name}
 use Rattle.mem_keeper.specs.Listing.{by_bytes, kept, with_name, place_in}
 use Rattle.mem_keeper.proofs.ListingOrder.{all-take}
-use Rattle.mem_keeper.proofs.ListingPut.{all-put, kept-beyond}
+use Rattle.mem_keeper.proofs.ListingPut.{all-behind, kept-beyond}
 use Rattle.mem_keeper.proofs.listing.named.keep_named.Goals as goal
 
 pub returns-then-place-max-clause-kept : goal.returns-then-place-max-clause-kept
@@ -32,4 +32,4 @@ returns-clause-short g c = λ all.
     let one : has_short_name (g.T.Named.name_of c.in_ok-make.field-0) ≡ true = ap has_short_name named ∙ c.in-Some.ensures.short in
     subst (λ (l : List g.row.T.Denot). list_all (λ x. has_short_name (g.T.Named.name_of x)) l ≡ true) (sym (c.truncate.ensures.items ∙ ap (take c.args.max) c.in_ok-put_named.ensures))
     (all-take (λ x. has_short_name (g.T.Named.name_of x)) c.args.max _
-    (all-put (by_bytes g.T.Named.name_of) (λ x. has_short_name (g.T.Named.name_of x)) c.in_ok-make.field-0 c.args.items.now.items one all))
+    (all-behind (by_bytes g.T.Named.name_of) (λ x. has_short_name (g.T.Named.name_of x)) c.in_ok-make.field-0 c.args.items.now.items one all))
