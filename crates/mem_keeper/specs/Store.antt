@@ -1,0 +1,31 @@
+-- The tables that vectors of rows are, and how many more rows they have room for.
+use Rattle.std.specs.Prelude.{ℕ, ◌+◌, ◌≤◌}
+use Rattle.std.specs.Vec.{vec_len, vec_capacity}
+use Rattle.s3_rows.specs.Tables.{Tables}
+use Rattle.mem_keeper.specs.declared.store.Store.{Store}
+
+abbrev pub tables_of : Store → Tables
+tables_of s = record {
+  params = s.params;
+  inodes = s.inodes.items;
+  names = s.names.items;
+  contents = s.contents.items;
+  inode_blocks = s.inode_blocks.items;
+  blocks = s.blocks.items;
+  objects = s.objects.items;
+  targets = s.targets.items;
+  attrs = s.attrs.items;
+  slots = s.slots.items;
+}
+
+-- each table takes n more rows without more memory
+pub record HasRoom (n : ℕ) (s : Store) : Type 0 where
+  pub inodes : vec_len s.inodes + n ≤ vec_capacity s.inodes
+  pub names : vec_len s.names + n ≤ vec_capacity s.names
+  pub contents : vec_len s.contents + n ≤ vec_capacity s.contents
+  pub inode_blocks : vec_len s.inode_blocks + n ≤ vec_capacity s.inode_blocks
+  pub blocks : vec_len s.blocks + n ≤ vec_capacity s.blocks
+  pub objects : vec_len s.objects + n ≤ vec_capacity s.objects
+  pub targets : vec_len s.targets + n ≤ vec_capacity s.targets
+  pub attrs : vec_len s.attrs + n ≤ vec_capacity s.attrs
+  pub slots : vec_len s.slots + n ≤ vec_capacity s.slots

@@ -1,0 +1,112 @@
+//! A batch, committed whole or not at all.
+ghost use Rattle.std.specs.Prelude.{◌≡◌, ℕ, ◌+◌, ◌++◌, [], ◌∷◌, length, IsTrue, IfOk, OnOk, OnErr, All};
+ghost use Rattle.std.specs.Vec.{vec_len, vec_capacity};
+ghost use Rattle.s3_rows.specs.Tables.{IsOrdered};
+ghost use Rattle.s3_rows.specs.Batches.{tables_after};
+ghost use Rattle.mem_keeper.specs.Indexes.{Stand, IsListedChange, StayListed};
+ghost use Rattle.mem_keeper.specs.Store.{tables_of, HasRoom};
+
+use crate::indexes::{Indexes, list_changes, tidy};
+use crate::store::{Gone, Store, apply_change};
+use s3_rows::{Batch, Change};
+use std::alloc::{AllocError, Global};
+
+// Makes room for this many more rows in each table.
+fn make_room(store: &mut Store, rows: usize) -> Result<(), AllocError>
+    ensures same { tables_of store.new ≡ tables_of store.old }
+    ensures ok { OnOk result (HasRoom rows store.new) }
+{
+    store.inodes.reserve(rows)?;
+    store.names.reserve(rows)?;
+    store.contents.reserve(rows)?;
+    store.inode_blocks.reserve(rows)?;
+    store.blocks.reserve(rows)?;
+    store.objects.reserve(rows)?;
+    store.targets.reserve(rows)?;
+    store.attrs.reserve(rows)?;
+    store.slots.reserve(rows)
+}
+
+// Makes the changes in order.
+fn apply_changes(store: &mut Store, gone: &mut Gone, mut changes: Vec<Change>)
+    requires ordered { IsOrdered (tables_of store.old) }
+    requires room { HasRoom (length changes.items) store.old }
+    ensures tables { tables_of store.new ≡ tables_after changes.items (tables_of store.old) }
+{
+    changes.reverse();
+    while let Some(change) = changes.pop() {
+        apply_change(store, gone, change);
+    }
+}
+
+// Makes the changes in order, and keeps the indexes.
+fn apply_whole(store: &mut Store, indexes: &mut Indexes, mut gone: Gone, changes: Vec<Change>)
+    requires ordered { IsOrdered (tables_of store.old) }
+    requires room { HasRoom (length changes.items) store.old }
+    requires standing { IsTrue indexes.old.stand → Stand indexes.old (tables_of store.old) }
+    requires listed { IsTrue indexes.old.stand → All (IsListedChange indexes.old) changes.items }
+    ensures tables { tables_of store.new ≡ tables_after changes.items (tables_of store.old) }
+    ensures ordered { IsOrdered (tables_of store.new) }
+    ensures standing { IsTrue indexes.new.stand → Stand indexes.new (tables_of store.new) }
+{
+    apply_changes(store, &mut gone, changes);
+    if indexes.stand {
+        tidy(indexes, store, &gone);
+    }
+}
+
+// Lists the rows that the changes put, where the indexes stand.
+fn list_puts(indexes: &mut Indexes, alloc: Global, changes: &[Change]) -> Result<(), AllocError>
+    ensures ok { OnOk result (IsTrue indexes.new.stand → All (IsListedChange indexes.new) changes.now) }
+    ensures kept { StayListed indexes.old indexes.new }
+    ensures same { indexes.new.stand ≡ indexes.old.stand }
+{
+    if indexes.stand {
+        list_changes(indexes, alloc, changes)
+    } else {
+        Ok(())
+    }
+}
+
+// A copy of a batch.
+fn copy_of(batch: &Batch) -> Result<Batch, AllocError>
+    ensures { IfOk result (λ b. b ≡ batch.now) }
+{
+    batch.clone()
+}
+
+// Room for the rows that changes replace or delete.
+fn room_for_gone(alloc: Global, rows: usize) -> Result<Gone, AllocError> {
+    Ok(Gone {
+        names: Vec::with_capacity(alloc, rows)?,
+        blocks: Vec::with_capacity(alloc, rows)?,
+    })
+}
+
+/// Makes the changes of a batch and records it, or changes nothing where there is no memory.
+pub(crate) fn commit_batch(
+    alloc: Global,
+    store: &mut Store,
+    indexes: &mut Indexes,
+    batches: &mut Vec<Batch>,
+    batch: &Batch,
+) -> Result<(), AllocError>
+    requires ordered { IsOrdered (tables_of store.old) }
+    requires standing { IsTrue indexes.old.stand → Stand indexes.old (tables_of store.old) }
+    ensures ok { OnOk result (tables_of store.new ≡ tables_after batch.now (tables_of store.old)) }
+    ensures recorded { OnOk result (batches.new.items ≡ batches.old.items ++ batch.now ∷ []) }
+    ensures err { OnErr result (tables_of store.new ≡ tables_of store.old) }
+    ensures unrecorded { OnErr result (batches.new.items ≡ batches.old.items) }
+    ensures ordered { IsOrdered (tables_of store.new) }
+    ensures standing { IsTrue indexes.new.stand → Stand indexes.new (tables_of store.new) }
+{
+    let record = copy_of(batch)?;
+    let changes = copy_of(batch)?.into_vec();
+    let gone = room_for_gone(alloc, changes.len())?;
+    make_room(store, changes.len())?;
+    batches.reserve(1)?;
+    list_puts(indexes, alloc, changes.as_slice())?;
+    batches.push_reserved(record);
+    apply_whole(store, indexes, gone, changes);
+    Ok(())
+}

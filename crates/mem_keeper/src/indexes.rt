@@ -1,0 +1,156 @@
+//! The indexes of names and blocks, and how a batch keeps them.
+ghost use Rattle.std.specs.Prelude.{◌≡◌, false, option_map, IsTrue, IfOk, OnOk, All};
+ghost use Rattle.std.specs.Ordering.{nat_cmp};
+ghost use Rattle.s3_rows.specs.Keyed.{rises};
+ghost use Rattle.s3_rows.specs.Tables.{by_name, by_block, IsOrdered};
+ghost use Rattle.s3_rows.specs.Selections.{name_of_bytes, block_of_digest};
+ghost use Rattle.mem_keeper.specs.Index.{Covers};
+ghost use Rattle.mem_keeper.specs.Indexes.{Stand, IsListedChange, StayListed};
+ghost use Rattle.mem_keeper.specs.Store.{tables_of};
+
+use crate::index::Index;
+use crate::look_ups::{Indexed, block_of_digest_of, has_bytes, name_id_of};
+use crate::store::{Gone, Store};
+use s3_rows::{BlockRow, Change, Digest};
+use std::alloc::{AllocError, Global};
+
+/// Indexes of the names by their bytes and of the blocks by their digests. They may not stand yet.
+#[derive(Debug, Drop)]
+pub(crate) struct Indexes {
+    pub names: Index,
+    pub blocks: Index,
+    pub stand: bool,
+}
+
+impl Indexes {
+    /// Indexes that do not stand yet, which take no memory.
+    pub(crate) fn new(alloc: Global) -> Self
+        ensures { result.stand ≡ false }
+    {
+        Indexes {
+            names: Index::new(alloc),
+            blocks: Index::new(alloc),
+            stand: false,
+        }
+    }
+}
+
+// Lists all rows of a table.
+fn list_rows<R: Indexed>(index: &mut Index, alloc: Global, rows: &[R]) -> Result<(), AllocError>
+    requires { IsTrue (rises (record { compare = nat_cmp; key = R.key }) rows.now) }
+    ensures { OnOk result (Covers (record { compare = nat_cmp; key = R.key }) R.bytes index.new rows.now) }
+{
+    for row in rows {
+        index.add(alloc, row.bytes(), row.key())?;
+    }
+    Ok(())
+}
+
+/// Builds the indexes where they do not stand.
+pub(crate) fn build(indexes: &mut Indexes, alloc: Global, store: &Store) -> Result<(), AllocError>
+    requires ordered { IsOrdered (tables_of store.now) }
+    requires standing { IsTrue indexes.old.stand → Stand indexes.old (tables_of store.now) }
+    ensures ok { OnOk result (IsTrue indexes.new.stand) }
+    ensures standing { IsTrue indexes.new.stand → Stand indexes.new (tables_of store.now) }
+{
+    if indexes.stand {
+        return Ok(());
+    }
+    list_rows(&mut indexes.names, alloc, &store.names)?;
+    list_rows(&mut indexes.blocks, alloc, &store.blocks)?;
+    indexes.stand = true;
+    Ok(())
+}
+
+/// The least id of a name with these bytes. It builds the indexes where they do not stand.
+pub(crate) fn name_id_in(
+    indexes: &mut Indexes,
+    alloc: Global,
+    store: &Store,
+    name: &[u8],
+) -> Result<Option<u64>, AllocError>
+    requires ordered { IsOrdered (tables_of store.now) }
+    requires standing { IsTrue indexes.old.stand → Stand indexes.old (tables_of store.now) }
+    ensures row { IfOk result (λ r. r ≡ option_map (λ n. n.id) (name_of_bytes (tables_of store.now) name.now)) }
+    ensures standing { IsTrue indexes.new.stand → Stand indexes.new (tables_of store.now) }
+{
+    build(indexes, alloc, store)?;
+    Ok(name_id_of(&indexes.names, &store.names, name))
+}
+
+/// The block of the least id with this digest. It builds the indexes where they do not stand.
+pub(crate) fn block_of_digest_in(
+    indexes: &mut Indexes,
+    alloc: Global,
+    store: &Store,
+    digest: &Digest,
+) -> Result<Option<BlockRow>, AllocError>
+    requires ordered { IsOrdered (tables_of store.now) }
+    requires standing { IsTrue indexes.old.stand → Stand indexes.old (tables_of store.now) }
+    ensures row { IfOk result (λ r. r ≡ block_of_digest (tables_of store.now) digest.now) }
+    ensures standing { IsTrue indexes.new.stand → Stand indexes.new (tables_of store.now) }
+{
+    build(indexes, alloc, store)?;
+    Ok(block_of_digest_of(&indexes.blocks, &store.blocks, digest))
+}
+
+// Lists the row that a change puts.
+fn list_change(indexes: &mut Indexes, alloc: Global, change: &Change) -> Result<(), AllocError>
+    ensures ok { OnOk result (IsListedChange indexes.new change.now) }
+    ensures kept { StayListed indexes.old indexes.new }
+    ensures same { indexes.new.stand ≡ indexes.old.stand }
+{
+    match change {
+        Change::PutName(row) => indexes.names.add(alloc, row.bytes(), row.id),
+        Change::PutBlock(row) => indexes.blocks.add(alloc, row.bytes(), row.id),
+        _ => Ok(()),
+    }
+}
+
+/// Lists the rows that the changes put.
+pub(crate) fn list_changes(
+    indexes: &mut Indexes,
+    alloc: Global,
+    changes: &[Change],
+) -> Result<(), AllocError>
+    ensures ok { OnOk result (All (IsListedChange indexes.new) changes.now) }
+    ensures kept { StayListed indexes.old indexes.new }
+    ensures same { indexes.new.stand ≡ indexes.old.stand }
+{
+    for change in changes {
+        list_change(indexes, alloc, change)?;
+    }
+    Ok(())
+}
+
+// Takes the id of a row that is gone from under its bytes, but not where a row of the id has these bytes now.
+fn unlist<R: Indexed>(index: &mut Index, rows: &[R], gone: &R)
+    requires rises { IsTrue (rises (record { compare = nat_cmp; key = R.key }) rows.now) }
+    requires covers { Covers (record { compare = nat_cmp; key = R.key }) R.bytes index.old rows.now }
+    ensures { Covers (record { compare = nat_cmp; key = R.key }) R.bytes index.new rows.now }
+{
+    if !has_bytes(rows, gone.key(), gone.bytes()) {
+        index.remove(gone.bytes(), gone.key());
+    }
+}
+
+fn unlist_all<R: Indexed>(index: &mut Index, rows: &[R], gone: &[R])
+    requires rises { IsTrue (rises (record { compare = nat_cmp; key = R.key }) rows.now) }
+    requires covers { Covers (record { compare = nat_cmp; key = R.key }) R.bytes index.old rows.now }
+    ensures { Covers (record { compare = nat_cmp; key = R.key }) R.bytes index.new rows.now }
+{
+    for row in gone {
+        unlist(index, rows, row);
+    }
+}
+
+/// Takes out what is listed of rows that are gone.
+pub(crate) fn tidy(indexes: &mut Indexes, store: &Store, gone: &Gone)
+    requires ordered { IsOrdered (tables_of store.now) }
+    requires standing { Stand indexes.old (tables_of store.now) }
+    ensures standing { Stand indexes.new (tables_of store.now) }
+    ensures same { indexes.new.stand ≡ indexes.old.stand }
+{
+    unlist_all(&mut indexes.names, &store.names, &gone.names);
+    unlist_all(&mut indexes.blocks, &store.blocks, &gone.blocks);
+}

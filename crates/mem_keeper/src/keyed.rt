@@ -1,0 +1,106 @@
+//! The key of each table's rows.
+ghost use Rattle.std.specs.Prelude.{◌≡◌};
+
+use s3_rows::{
+    AttrRow, BlockRow, ContentRow, InodeBlockRow, InodeRow, NameRow, ObjectRow, SlotRow, TargetRow,
+};
+
+/// A row with a key.
+pub(crate) trait Keyed: Drop {
+    type Key: Ord + Copy + Drop;
+
+    ghost key: { Self → Self.Key };
+
+    fn key(&self) -> Self::Key
+        ensures { result ≡ key self.now };
+}
+
+impl Keyed for InodeRow {
+    type Key = u64;
+
+    ghost key = { λ r. r.id };
+
+    fn key(&self) -> u64 {
+        self.id
+    }
+}
+
+impl Keyed for NameRow {
+    type Key = u64;
+
+    ghost key = { λ r. r.id };
+
+    fn key(&self) -> u64 {
+        self.id
+    }
+}
+
+impl Keyed for ContentRow {
+    type Key = (u64, u64);
+
+    ghost key = { λ r. (r.parent, r.name_id) };
+
+    fn key(&self) -> (u64, u64) {
+        (self.parent, self.name_id)
+    }
+}
+
+impl Keyed for InodeBlockRow {
+    type Key = (u64, u64);
+
+    ghost key = { λ r. (r.inode, r.blockno) };
+
+    fn key(&self) -> (u64, u64) {
+        (self.inode, self.blockno)
+    }
+}
+
+impl Keyed for BlockRow {
+    type Key = u64;
+
+    ghost key = { λ r. r.id };
+
+    fn key(&self) -> u64 {
+        self.id
+    }
+}
+
+impl Keyed for ObjectRow {
+    type Key = u64;
+
+    ghost key = { λ r. r.id };
+
+    fn key(&self) -> u64 {
+        self.id
+    }
+}
+
+impl Keyed for TargetRow {
+    type Key = u64;
+
+    ghost key = { λ r. r.inode };
+
+    fn key(&self) -> u64 {
+        self.inode
+    }
+}
+
+impl Keyed for AttrRow {
+    type Key = (u64, u64);
+
+    ghost key = { λ r. (r.inode, r.name_id) };
+
+    fn key(&self) -> (u64, u64) {
+        (self.inode, self.name_id)
+    }
+}
+
+impl Keyed for SlotRow {
+    type Key = u32;
+
+    ghost key = { λ r. r.slot };
+
+    fn key(&self) -> u32 {
+        self.slot
+    }
+}

@@ -1,0 +1,19 @@
+//! A store of the metadata tables in memory.
+#![tactic(auto)]
+
+mod calls;
+mod commit;
+mod index;
+mod indexes;
+mod keeper;
+mod keyed;
+mod listing;
+mod look_ups;
+mod memory;
+mod pages;
+mod sorted;
+mod store;
+#[cfg(test)]
+mod tests;
+
+pub use memory::MemKeeper;
