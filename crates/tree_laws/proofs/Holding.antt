@@ -5,6 +5,7 @@ use Rattle.std.specs.List.{filter}
 use Rattle.op_frames.specs.Replay.{Request}
 use Rattle.op_frames.specs.declared.operation.Op.{Op}
 use Rattle.op_frames.specs.declared.operation.Op.TheVariants as ops
+use Rattle.op_frames.specs.declared.reply.Reply.TheVariants as replies
 use Rattle.s3_base.specs.declared.node_kind.Kind.{Kind}
 use Rattle.s3_base.specs.declared.node_kind.Kind.TheVariants as kinds
 use Rattle.plain_tree.specs.Attributes.{kind_of}
@@ -13,9 +14,10 @@ use Rattle.plain_tree.specs.Calls.{tree_after_all}
 use Rattle.plain_tree.specs.Checks.{first_failure, entry_check, empty_check, no_directory_check}
 use Rattle.plain_tree.specs.Entries.{entry_at, child_at, lives, settled, add_entry, drop_entry, is_directory}
 use Rattle.plain_tree.specs.Files.{inode_of, with_bytes, written_at, resized}
-use Rattle.plain_tree.specs.Operations.{checks, effect, tree_after, move_checks, new_file, new_directory, new_link}
+use Rattle.plain_tree.specs.Operations.{checks, effect, reply_to, tree_after, move_checks, new_file, new_directory, new_link}
 use Rattle.plain_tree.specs.Subtrees.{is_same, dropped, moved_entry, without_tree, without_pass}
 use Rattle.plain_tree.specs.Tree.{Content, Regular, Directory, Link, Node, Tree, root, node_at, entry_of, handle_of, change_node, with_node, with_handle, without_handle, without_node, touched, stamped}
+use Rattle.plain_tree.proofs.Replies.{reply_at}
 use Rattle.tree_laws.specs.LockedTrees.{Spares, AllSpare, IsAsBefore}
 use Rattle.tree_laws.specs.Locks.{WouldChange, IsKept}
 use Rattle.tree_laws.specs.Numbers.{InOrder}
@@ -186,7 +188,7 @@ lives_if t sound w keeps sweeps p folder false is =
 
 -- ---- every operation
 
-stays_by : (t : Tree) (pass now : ℕ) (op : Op) (p x : ℕ) (n : List ℕ) (node : Node) → Held t p x n node → first_failure (checks t pass op) ≡ None → Spares t p n op
+stays_by : (t : Tree) (pass now : ℕ) (op : Op) (p x : ℕ) (n : List ℕ) (node : Node) → Held t p x n node → first_failure (checks t pass op) ≡ None → Spares t p n op replies.Done
     → entry_at (effect t pass op now) p n ≡ Some x
 stays_by t pass now (ops.Chmod y mode) p x n node held passes spares = (same_shape _ (λ node. refl) (λ name node. refl) y t).entry p n ∙ held.names
 stays_by t pass now (ops.Chown y uid gid) p x n node held passes spares = (same_shape _ (λ node. refl) (λ name node. refl) y t).entry p n ∙ held.names
@@ -243,14 +245,14 @@ stays_by t pass now (ops.CopyTree source q m) p x n node held passes spares =
     (copy_shape source q m now t held.sound.ordered (folder_is (node_at t q) all.1.1.1.0 all.1.1.1.1.0) (free_is (node_at t q) m all.1.1.1.1.1.1.1.0) (below_shape t held.sound.names source).itself).old_entry p x n
     held.names
 stays_by t pass now (ops.LockTree y) p x n node held passes spares = (lock_shape y t).entry p n ∙ held.names
-stays_by t pass now (ops.RemoveTree q m) p x n node held passes spares = uprooted t p x n node held q m now (entry_at t q m) spares
+stays_by t pass now (ops.RemoveTree q m) p x n node held passes spares = uprooted t p x n node held q m now (entry_at t q m) (λ top is. spares top refl is)
 stays_by t pass now ops.Leave p x n node held passes spares =
     let keeps : ℕ → Bool = lives (record t { handles = filter (λ h. not (h.1.pass == pass)) t.handles }) in
     let sweeps : Sweeps (shape_of t) (shape_of (without_pass pass t)) keeps = leave_shape pass t held.sound.ordered held.sound.names in
     sweeps.entry p n ∙ ap (λ b. cond b (entry_at t p n) None) (lives_if t held.sound (without_pass pass t) keeps sweeps p (folder_of t p x n node held) (keeps p) refl) ∙ held.names
 stays_by t pass now op p x n node held passes spares = held.names
 
-stays : (t : Tree) (pass now : ℕ) (op : Op) (p x : ℕ) (n : List ℕ) (node : Node) → Held t p x n node → (first_failure (checks t pass op) ≡ None → Spares t p n op)
+stays : (t : Tree) (pass now : ℕ) (op : Op) (p x : ℕ) (n : List ℕ) (node : Node) → Held t p x n node → (first_failure (checks t pass op) ≡ None → Spares t p n op replies.Done)
     → entry_at (tree_after t pass op now) p n ≡ Some x
 stays t pass now op p x n node held spares =
     after_call (λ after. entry_at after p n ≡ Some x) t pass now op held.names (λ passes. stays_by t pass now op p x n node held passes (spares passes))
@@ -259,7 +261,7 @@ there_still : (found : Option Node) (node : Node) (k : Kind) → kind_in found �
 there_still found node k is (inl gone) = absurd (none_some (kind_in found) k (ap kind_in gone) is)
 there_still found node k is (inr kept) = kept
 
-pub one_stays : (t : Tree) (pass now : ℕ) (op : Op) (p x : ℕ) (n : List ℕ) (node : Node) → Held t p x n node → (first_failure (checks t pass op) ≡ None → Spares t p n op)
+pub one_stays : (t : Tree) (pass now : ℕ) (op : Op) (p x : ℕ) (n : List ℕ) (node : Node) → Held t p x n node → (first_failure (checks t pass op) ≡ None → Spares t p n op replies.Done)
     → IsAsBefore p n x node (tree_after t pass op now)
 one_stays t pass now op p x n node held spares =
     let call : Request = record { pass = pass; now = now; op = op } in
@@ -272,11 +274,15 @@ one_stays t pass now op p x n node held spares =
 
 -- ---- lists of calls
 
+spares_done : (t : Tree) (pass now : ℕ) (op : Op) (p : ℕ) (n : List ℕ) → Spares t p n op (reply_to t pass op now) → first_failure (checks t pass op) ≡ None → Spares t p n op replies.Done
+spares_done t pass now (ops.RemoveTree q m) p n spares passes = λ top done is. spares top (reply_at t pass now (ops.RemoveTree q m) None passes) is
+spares_done t pass now op p n spares passes = _
+
 pub all_stay : (t : Tree) (calls : List Request) (p x : ℕ) (n : List ℕ) (node : Node) → Held t p x n node → AllSpare t p n calls → IsAsBefore p n x node (tree_after_all t calls)
 all_stay t [] p x n node held spare = record { names = held.names; time = node.ctime; is = held.is }
 all_stay t (call ∷ calls) p x n node held spare =
     let next : Tree = tree_after t call.pass call.op call.now in
-    let one : IsAsBefore p n x node next = one_stays t call.pass call.now call.op p x n node held (λ passes. spare.0) in
+    let one : IsAsBefore p n x node next = one_stays t call.pass call.now call.op p x n node held (λ passes. spares_done t call.pass call.now call.op p n spare.0 passes) in
     let rest : IsAsBefore p n x (stamped one.time node) (tree_after_all next calls) =
     all_stay next calls p x n (stamped one.time node) (record { sound = sound_after t (call ∷ []) held.sound; is = one.is; locked = held.locked; names = one.names }) spare.1 in
     record { names = rest.names; time = rest.time; is = rest.is }

@@ -133,27 +133,31 @@ apart_from t top q m later sound keeps pass from by passes r is out (suc steps) 
       ]
     ]
 
-spares_inside : (t : Tree) (top q : ℕ) (m : List ℕ) (later : Tree) → Sound t → Kept t top q m later → (pass : ℕ) (op : Op) → SparesTree later top op → (p x : ℕ) (n : List ℕ) → is_at_or_below t top p ≡ true
-    → entry_at t p n ≡ Some x → first_failure (checks later pass op) ≡ None → Spares later p n op
+spares_inside : (t : Tree) (top q : ℕ) (m : List ℕ) (later : Tree) → Sound t → Kept t top q m later → (pass : ℕ) (op : Op) → SparesTree later top op replies.Done → (p x : ℕ) (n : List ℕ) → is_at_or_below t top p ≡ true
+    → entry_at t p n ≡ Some x → first_failure (checks later pass op) ≡ None → Spares later p n op replies.Done
 spares_inside t top q m later sound keeps pass (ops.RemoveTree from by) spares p x n within names passes =
     let folder : kind_in (node_at later p) ≡ Some kinds.Directory = keeps.sound.grown.holds p x n (entry_later t top q m later keeps p x n within names) in
     let way = keeps.sound.grown.leads p (λ no. no) folder in
-    λ r is. (
-      is_false (is_at_or_below later r p) (λ removed. apart_from t top q m later sound keeps pass from by passes r is (spares r is) way.0 p way.1 folder within removed),
+    λ r done is. (
+      is_false (is_at_or_below later r p) (λ removed. apart_from t top q m later sound keeps pass from by passes r is (spares r refl is) way.0 p way.1 folder within removed),
       λ place. refused_there t top q m later keeps pass from by passes p x n within names (sym place.0),
     )
 spares_inside t top q m later sound keeps pass op spares p x n within names passes = _
 
-spares_first : (t : Tree) (top q : ℕ) (m : List ℕ) (later : Tree) → Kept t top q m later → (op : Op) → SparesTree later top op → Spares later q m op
-spares_first t top q m later keeps (ops.RemoveTree from by) spares = λ r is. (
-  is_false (is_at_or_below later r q) (λ removed. differ (is_at_or_below later r top) ((below_shape later keeps.sound.names r).down q top m removed keeps.name) (spares r is)),
+spares_first : (t : Tree) (top q : ℕ) (m : List ℕ) (later : Tree) → Kept t top q m later → (op : Op) → SparesTree later top op replies.Done → Spares later q m op replies.Done
+spares_first t top q m later keeps (ops.RemoveTree from by) spares = λ r done is. (
+  is_false (is_at_or_below later r q) (λ removed. differ (is_at_or_below later r top) ((below_shape later keeps.sound.names r).down q top m removed keeps.name) (spares r refl is)),
   λ place.
       differ (is_at_or_below later r top)
-      (ap (is_at_or_below later r) (one_entry (entry_at later) from by q m r top place is keeps.name) ∙ (below_shape later keeps.sound.names r).itself) (spares r is),
+      (ap (is_at_or_below later r) (one_entry (entry_at later) from by q m r top place is keeps.name) ∙ (below_shape later keeps.sound.names r).itself) (spares r refl is),
 )
 spares_first t top q m later keeps op spares = _
 
-kept_on : (t : Tree) (top q : ℕ) (m : List ℕ) (later : Tree) → Sound t → kind_in (node_at t top) ≡ Some kinds.Directory → Kept t top q m later → (pass now : ℕ) (op : Op) → SparesTree later top op
+tree_done : (t : Tree) (pass now : ℕ) (op : Op) (x : ℕ) → SparesTree t x op (reply_to t pass op now) → first_failure (checks t pass op) ≡ None → SparesTree t x op replies.Done
+tree_done t pass now (ops.RemoveTree q m) x spares passes = λ top done is. spares top (reply_at t pass now (ops.RemoveTree q m) None passes) is
+tree_done t pass now op x spares passes = _
+
+kept_on : (t : Tree) (top q : ℕ) (m : List ℕ) (later : Tree) → Sound t → kind_in (node_at t top) ≡ Some kinds.Directory → Kept t top q m later → (pass now : ℕ) (op : Op) → SparesTree later top op (reply_to later pass op now)
     → Kept t top q m (tree_after later pass op now)
 kept_on t top q m later sound folder keeps pass now op spares =
     let next : Tree = tree_after later pass op now in
@@ -161,7 +165,7 @@ kept_on t top q m later sound folder keeps pass now op spares =
     λ x node within is same.
     let old = keeps.nodes x node within is in
     let one = one_stays later pass now op q x m (stamped old.0 (record node { locked = true })) (record { sound = keeps.sound; is = old.1; locked = refl; names = keeps.name ∙ ap Some (sym same) })
-    (λ passes. spares_first t top q m later keeps op spares) in
+    (λ passes. spares_first t top q m later keeps op (tree_done later pass now op top spares passes)) in
     record { names = one.names; time = one.time; is = one.is } in
     let top_node = kind_some (node_at t top) kinds.Directory folder in
     record {
@@ -175,7 +179,7 @@ kept_on t top q m later sound folder keeps pass now op spares =
                 let old = keeps.nodes x node within is in
                 let one = one_stays later pass now op from.0 x from.1 (stamped old.0 (record node { locked = true }))
                 (record { sound = keeps.sound; is = old.1; locked = refl; names = entry_later t top q m later keeps from.0 x from.1 from.2 from.3 })
-                (λ passes. spares_inside t top q m later sound keeps pass op spares from.0 x from.1 from.2 from.3 passes) in
+                (λ passes. spares_inside t top q m later sound keeps pass op (tree_done later pass now op top spares passes) from.0 x from.1 from.2 from.3 passes) in
                 (one.time, one.is)
           ];
       name = (first top top_node.0 (below_shape t sound.names top).itself top_node.1 refl).names;

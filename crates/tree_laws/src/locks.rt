@@ -27,7 +27,8 @@ pub fn locked_nodes_stay()
 {}
 
 /// Whatever calls come after the making, an entry that names a locked node stays and names it, and the node stays as it is but
-/// for ctime, through all further calls but a RemoveTree of the entry, or of a directory at or above the one that it is in.
+/// for ctime, through all further calls but a RemoveTree, answered Done, of the entry, or of a directory at or above the one
+/// that it is in.
 pub fn locked_entries_stay()
     ensures { (block_size time : ℕ) (calls more : List Request) (parent inode : ℕ) (name : List ℕ) (node : Node) → node_at (tree_after_all (made_tree block_size time) calls) inode ≡ Some node
         → node.locked ≡ true → entry_at (tree_after_all (made_tree block_size time) calls) parent name ≡ Some inode
@@ -36,7 +37,7 @@ pub fn locked_entries_stay()
 {}
 
 /// Whatever calls come after the making, once a LockTree is answered Done, all at and below its inode stays as it is but for
-/// ctime, with the same names, through all further calls but a RemoveTree of it, or of a directory above it.
+/// ctime, with the same names, through all further calls but a RemoveTree, answered Done, of it or of a directory above it.
 pub fn locked_trees_stay()
     ensures { (block_size time : ℕ) (calls more : List Request) (pass now inode : ℕ) → reply_to (tree_after_all (made_tree block_size time) calls) pass (ops.LockTree inode) now ≡ replies.Done
         → AllSpareTree (tree_after (tree_after_all (made_tree block_size time) calls) pass (ops.LockTree inode) now) inode more
