@@ -19,4 +19,4 @@ pub use limits::limits_stay;
 pub use locks::{locked_entries_stay, locked_nodes_refuse, locked_nodes_stay, locked_trees_stay};
 pub use names::names_stay_in_order;
 pub use numbers::nodes_stay_in_order;
-pub use removals::removal_removes_what_it_names;
+pub use removals::{reached_removal_removes_what_it_names, removal_removes_what_it_names};
