@@ -11,6 +11,7 @@ pub mod Counted
 pub mod EachCall
 pub mod EachNode
 pub mod Gaining
+pub mod Grounded
 pub mod Holding
 pub mod Lasting
 pub mod Legal

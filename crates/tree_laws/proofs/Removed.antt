@@ -20,6 +20,7 @@ use Rattle.plain_tree.specs.Entries.{entries_of, is_directory, entry_at, is_name
 use Rattle.plain_tree.specs.Operations.{checks, reply_to, tree_after}
 use Rattle.plain_tree.specs.Subtrees.{left_over, without_directories, without_tree}
 use Rattle.plain_tree.specs.Tree.{Content, Regular, Directory, Link, Node, Tree, root, made_tree, node_at, entry_of, changed_by, touched, stamped}
+use Rattle.plain_tree.specs.WellFormed.{HasOneTree, HasNoOrphans}
 use Rattle.plain_tree.proofs.Replies.{reply_at, tree_at}
 use Rattle.tree_laws.specs.Changes.{ChangesOneNode}
 use Rattle.tree_laws.specs.Names.{NamesInOrder}
@@ -30,6 +31,7 @@ use Rattle.tree_laws.proofs.Bools.{left_true, right_true, either_true, differ, i
 use Rattle.tree_laws.proofs.Branches.{Uproots}
 use Rattle.tree_laws.proofs.CopyShape.{kind_some, entry_some}
 use Rattle.tree_laws.proofs.Gaining.{IsBelow, root_inside, no_round}
+use Rattle.tree_laws.proofs.Grounded.{Rooted, grounded}
 use Rattle.tree_laws.proofs.Lasting.{reached_sound}
 use Rattle.tree_laws.proofs.Losing.{Unlinks}
 use Rattle.tree_laws.proofs.Named as names_by
@@ -174,7 +176,7 @@ outside_left : (below : List ℕ) (without : Tree) (now x : ℕ) (found : Option
 outside_left below without now x None out = refl
 outside_left below without now x (Some node) out = outside_part (is_among below x) (lives without x) (is_directory node.content) now x node out
 
-pub removed_whole : (p : ℕ) (n : List ℕ) (now x : ℕ) (t : Tree) → Sound t → entry_at t p n ≡ Some x → kind_in (node_at t x) ≡ Some kinds.Directory
+pub removed_whole : (p : ℕ) (n : List ℕ) (now x : ℕ) (t : Tree) → Rooted t → entry_at t p n ≡ Some x → kind_in (node_at t x) ≡ Some kinds.Directory
     → IsRemoved p n now t (without_tree p n now (Some x) t)
 removed_whole p n now x t sound names folder =
     let below : List ℕ = at_and_below t x in
@@ -258,7 +260,7 @@ passes_if t pass now op (Some errno) is done =
     let both_ways : replies.Errno (record { 0 = errno }) ≡ replies.Done = sym (reply_at t pass now op (Some errno) is) ∙ done in
     absurd (cc both_ways)
 
-removed_if : (p : ℕ) (n : List ℕ) (now : ℕ) (t : Tree) → Sound t → (found : Option ℕ) → entry_at t p n ≡ found → entry_check found ≡ None → directory_check (option_and_then (node_at t) found) ≡ None
+removed_if : (p : ℕ) (n : List ℕ) (now : ℕ) (t : Tree) → Rooted t → (found : Option ℕ) → entry_at t p n ≡ found → entry_check found ≡ None → directory_check (option_and_then (node_at t) found) ≡ None
     → IsRemoved p n now t (without_tree p n now found t)
 removed_if p n now t sound None is there folder = absurd (cc there)
 removed_if p n now t sound (Some x) is there folder =
@@ -266,14 +268,22 @@ removed_if p n now t sound (Some x) is there folder =
     let found = kind_some (node_at t x) node.0 node.1 in
     removed_whole p n now x t sound is (folder_is (node_at t x) (ap node_check found.1) folder)
 
-pub removed_by : (t : Tree) → Sound t → (pass now p : ℕ) (n : List ℕ) → reply_to t pass (ops.RemoveTree p n) now ≡ replies.Done → IsRemoved p n now t (tree_after t pass (ops.RemoveTree p n) now)
+pub removed_by : (t : Tree) → Rooted t → (pass now p : ℕ) (n : List ℕ) → reply_to t pass (ops.RemoveTree p n) now ≡ replies.Done → IsRemoved p n now t (tree_after t pass (ops.RemoveTree p n) now)
 removed_by t sound pass now p n done =
     let passes : first_failure (checks t pass (ops.RemoveTree p n)) ≡ None = passes_if t pass now (ops.RemoveTree p n) (first_failure (checks t pass (ops.RemoveTree p n))) refl done in
     let all = all_pass (checks t pass (ops.RemoveTree p n)) passes in
     subst (IsRemoved p n now t) (sym (tree_at t pass now (ops.RemoveTree p n) None passes)) (removed_if p n now t sound (entry_at t p n) refl all.1.1.1.1.1.0 all.1.1.1.1.1.1.0)
 
+-- every tree that is well formed
+pub removed_in : (t : Tree) → InOrder t → NamesInOrder t → HasOneTree t → HasNoOrphans t → (pass now parent : ℕ) (name : List ℕ) → reply_to t pass (ops.RemoveTree parent name) now ≡ replies.Done
+    → IsRemoved parent name now t (tree_after t pass (ops.RemoveTree parent name) now)
+removed_in t ordered names tree orphans pass now parent name done =
+    removed_by t (record { ordered = ordered; names = names; grown = grounded t ordered names tree orphans }) pass now parent name done
+
+-- every tree that calls lead to
 pub removed_after : (block_size time : ℕ) (calls : List Request) (pass now parent : ℕ) (name : List ℕ)
     → reply_to (tree_after_all (made_tree block_size time) calls) pass (ops.RemoveTree parent name) now ≡ replies.Done
     → IsRemoved parent name now (tree_after_all (made_tree block_size time) calls) (tree_after (tree_after_all (made_tree block_size time) calls) pass (ops.RemoveTree parent name) now)
 removed_after block_size time calls pass now parent name done =
-    removed_by (tree_after_all (made_tree block_size time) calls) (reached_sound block_size time calls) pass now parent name done
+    let sound : Sound (tree_after_all (made_tree block_size time) calls) = reached_sound block_size time calls in
+    removed_by (tree_after_all (made_tree block_size time) calls) (record { ordered = sound.ordered; names = sound.names; grown = sound.grown }) pass now parent name done

@@ -22,7 +22,7 @@ pub use limits::limits_stay;
 pub use locks::{locked_entries_stay, locked_nodes_refuse, locked_nodes_stay, locked_trees_stay};
 pub use names::names_stay_in_order;
 pub use numbers::nodes_stay_in_order;
-pub use removals::removal_removes_what_it_names;
+pub use removals::{reached_removal_removes_what_it_names, removal_removes_what_it_names};
 pub use renames::{
     reached_renames_move_one_entry, renamed_moves_one_entry, renamed_stays_one_tree,
 };

@@ -1,5 +1,5 @@
-use Rattle.tree_laws.proofs.Removed.{removed_after}
+use Rattle.tree_laws.proofs.Removed.{removed_in}
 use Rattle.tree_laws.proofs.removals.removal_removes_what_it_names.Goals as goal
 
 pub returns : goal.returns
-returns c = λ block_size time calls pass now parent name done. removed_after block_size time calls pass now parent name done
+returns c = λ t ordered names tree orphans pass now parent name done. removed_in t ordered names tree orphans pass now parent name done
