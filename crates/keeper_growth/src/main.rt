@@ -2,6 +2,9 @@
 //! memory, looks each row up, and prints how many rows it found.
 #![tactic(auto)]
 
+ghost use Rattle.std.specs.Prelude.{◌≤◌, ◌^◌};
+ghost use Rattle.std.specs.Option.{ForSome};
+
 mod growth;
 
 use growth::{MOST, grow};

@@ -1,4 +1,5 @@
 mod Counting
+mod Lengths
 mod Listed
 mod Rooted
 mod Shaped

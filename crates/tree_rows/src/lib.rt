@@ -4,5 +4,5 @@
 mod made;
 mod valid;
 
-pub use made::made_tables_are_the_made_tree;
+pub use made::{made_tables_are_the_made_tree, tables_represent_their_tree};
 pub use valid::{stored_counts_are_link_counts, valid_tables_have_one_tree};
