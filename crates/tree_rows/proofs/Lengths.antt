@@ -1,6 +1,6 @@
 -- The files of the tree that tables stand for are as long as their rows say.
-use Rattle.std.proofs.Common.{◌≡◌, ◌≤◌, ◌<◌, ℕ, zero, suc, ◌+◌, ◌-◌, ◌*◌, ◌/◌, ◌%◌, List, [], ◌∷◌, ◌++◌, length, take, refl, sym, ap, ◌∙◌, arith, length-append}
-use Rattle.std.specs.Prelude.{map, min, replicate, option_map, unwrap_or}
+use Rattle.std.proofs.Common.{◌≡◌, ◌≤◌, ◌<◌, ℕ, zero, suc, ◌+◌, ◌-◌, ◌*◌, ◌/◌, List, [], ◌∷◌, length, refl, sym, ap, ◌∙◌, arith, length-append}
+use Rattle.std.specs.Prelude.{map, replicate, option_map, unwrap_or}
 use Rattle.std.proofs.lemmas.List.{length-take, length-replicate}
 use Rattle.std.proofs.Math.Nat.{mod-lt, suc-mul, zero-mul}
 use Rattle.std.proofs.lemmas.Nat.{div-add-mod'}
@@ -9,8 +9,8 @@ use Rattle.s3_base.specs.declared.node_kind.Kind.TheVariants as kinds
 use Rattle.plain_tree.specs.Tree as tree
 use Rattle.s3_rows.specs.Rows.{Inode}
 use Rattle.s3_rows.specs.Tables.{Tables}
-use Rattle.tree_rows.specs.Shapes.{ContentShape, Regular, Directory, Link, NodeShape, TreeShape, shape_of_content, shape_of_node, shape_of_tree, shape_of_tables, entries_in, target_in, node_of_row, Represents}
-use Rattle.tree_rows.specs.Contents.{Contents, padded, stored_at, blocks_from, bytes_in, content_in, node_in, tree_of}
+use Rattle.tree_rows.specs.Shapes.{ContentShape, Regular, Directory, Link, NodeShape, shape_of_content, shape_of_node, shape_of_tables, entries_in, target_in, node_of_row, Represents}
+use Rattle.tree_rows.specs.Contents.{Contents, padded, stored_at, blocks_from, bytes_in, node_in, tree_of}
 
 padded_length : (size : ℕ) (bytes : List ℕ) → size ≤ length (padded size bytes)
 padded_length size bytes =
