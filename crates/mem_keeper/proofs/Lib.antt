@@ -1,10 +1,4 @@
 pub mod Least
 pub mod Listed
-pub mod ListingLeast
-pub mod ListingNames
-pub mod ListingOrder
-pub mod ListingPages
-pub mod ListingPut
-pub mod ListingRuns
 pub mod Place
 pub mod Standing

@@ -1,6 +1,5 @@
 pub mod Index
 pub mod Indexes
-pub mod Listing
 pub mod Memory
 pub mod Places
 pub mod Store

@@ -8,11 +8,11 @@ ghost use Rattle.mem_keeper.specs.Memory.{IsCall};
 use crate::MemKeeper;
 use crate::commit::commit_batch;
 use crate::indexes::{block_of_digest_in, name_id_in};
-use crate::listing::{
-    attrs_of, blocks_of_inode, entries_of, free_objects_of, holder_of_inode, slot_of, slots_of,
-};
 use crate::look_ups::{attr_of, copy_of_row, name_of, target_of};
 use crate::pages::page_of_store;
+use row_lists::{
+    attrs_of, blocks_of_inode, entries_of, free_objects_of, holder_of_inode, slot_of, slots_of,
+};
 use s3_base::{ByteList, NumberList};
 use s3_rows::{
     AttrRow, Batch, BlockRow, ContentRow, Digest, EntryList, InodeBlockList, InodeBlockRow,

@@ -7,7 +7,6 @@ mod index;
 mod indexes;
 mod keeper;
 mod keyed;
-mod listing;
 mod look_ups;
 mod memory;
 mod pages;

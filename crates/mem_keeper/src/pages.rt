@@ -5,11 +5,11 @@ ghost use Rattle.s3_rows.specs.Tables.{IsOrdered};
 ghost use Rattle.s3_rows.specs.Told.{is_page_of};
 ghost use Rattle.mem_keeper.specs.Store.{tables_of};
 
-use crate::listing::{
+use crate::store::Store;
+use row_lists::{
     page_of_attrs, page_of_blocks, page_of_contents, page_of_inode_blocks, page_of_inodes,
     page_of_names, page_of_objects, page_of_slots, page_of_targets,
 };
-use crate::store::Store;
 use s3_rows::{RowKey, RowList, TableName};
 use std::alloc::{AllocError, Global};
 

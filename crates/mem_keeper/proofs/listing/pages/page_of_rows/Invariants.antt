@@ -1,5 +1,0 @@
-use Rattle.std.proofs.Common.{◌≡◌, map, take}
-use Rattle.mem_keeper.proofs.listing.pages.page_of_rows.Given as goal
-
-abbrev pub invariant-loop-row : goal.invariant-loop-row
-invariant-loop-row g l = l.page ≡ map g.T.TableRow.row_of (take l.row-index l.row-items)

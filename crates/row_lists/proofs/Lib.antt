@@ -1,0 +1,6 @@
+pub mod ListingLeast
+pub mod ListingNames
+pub mod ListingOrder
+pub mod ListingPages
+pub mod ListingPut
+pub mod ListingRuns
