@@ -3,5 +3,7 @@
 #![tactic(auto)]
 
 mod names;
+mod plan;
 
 pub use names::name_up;
+pub use plan::{Handle, Handles, Plan};

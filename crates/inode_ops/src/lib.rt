@@ -1,0 +1,4 @@
+//! Plans of the operations on one inode.
+#![tactic(auto)]
+
+mod attr;
