@@ -1,5 +1,5 @@
 -- When the plan of an operation is right: the tree's own refusal, or a batch after which tables represent the tree's next.
-use Rattle.std.specs.Prelude.{◌≡◌, ℕ, List, [], Bool, true, false, None}
+use Rattle.std.specs.Prelude.{◌≡◌, ℕ, [], Bool, true, false, None}
 use Rattle.op_frames.specs.declared.operation.Op.{Op}
 use Rattle.op_frames.specs.declared.operation.Op.TheVariants as ops
 use Rattle.op_frames.specs.declared.reply.Reply.TheVariants as replies

@@ -1,22 +1,12 @@
 ghost use Rattle.std.specs.Prelude.{◌≡◌};
+ghost use Rattle.tree_rows.specs.Attrs.{attr_of_row};
 
 use op_frames::Attr;
 use s3_rows::InodeRow;
 
 /// The attributes that an inode's row has.
-pub(crate) fn attr_of_row(row: &InodeRow) -> Attr
-    ensures { result ≡ record {
-      inode = row.now.id;
-      kind = row.now.kind;
-      mode = row.now.mode;
-      uid = row.now.uid;
-      gid = row.now.gid;
-      links = row.now.refcount;
-      size = row.now.size;
-      mtime = row.now.mtime;
-      ctime = row.now.ctime;
-      locked = row.now.locked;
-    } }
+pub(crate) fn attr_of(row: &InodeRow) -> Attr
+    ensures { result ≡ attr_of_row row.now }
 {
     Attr {
         inode: row.id,

@@ -2,3 +2,6 @@
 #![tactic(auto)]
 
 mod attr;
+mod plans;
+
+pub use plans::plan;

@@ -1,6 +1,8 @@
-mod Counting
-mod Lengths
-mod Listed
-mod Rooted
-mod Shaped
-mod Whole
+pub mod Attributed
+pub mod Counting
+pub mod Lengths
+pub mod Listed
+pub mod Replaced
+pub mod Rooted
+pub mod Shaped
+pub mod Whole

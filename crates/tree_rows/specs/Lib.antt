@@ -1,2 +1,3 @@
+pub mod Attrs
 pub mod Contents
 pub mod Shapes

@@ -1,0 +1,5 @@
+//! Tests of plans and counts over a keeper in memory.
+#![tactic(auto)]
+
+#[cfg(test)]
+mod tests;
