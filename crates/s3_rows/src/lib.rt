@@ -9,6 +9,7 @@ mod inode_row;
 mod keeper;
 mod laws;
 mod lists;
+mod made;
 mod name_rows;
 mod params;
 mod table_rows;
@@ -28,6 +29,7 @@ pub use laws::{
 pub use lists::{
     EntryList, InodeBlockList, NamedAttr, NamedAttrList, NamedEntry, SlotList, Spot, SpotList,
 };
+pub use made::made_batch;
 pub use name_rows::{AttrRow, ContentRow, NameRow, TargetRow};
 pub use params::{Params, State};
 pub use table_rows::{Row, RowKey, RowList, TableName};
