@@ -1,5 +1,5 @@
 -- What batches make of tables.
-use Rattle.std.proofs.Common.{false, ◌≡◌, ℕ, List, [], ◌∷◌, ◌++◌, refl, ap}
+use Rattle.std.proofs.Common.{false, ◌≡◌, ℕ, List, [], ◌∷◌, ◌++◌, refl, ap, sym, ◌∙◌}
 use Rattle.std.specs.Cmp.{IsTotalOrder, nat_cmp_total, on_total, then_total}
 use Rattle.s3_rows.specs.declared.change.Change.{Change}
 use Rattle.s3_rows.specs.declared.change.Change.TheVariants as changes
@@ -7,7 +7,8 @@ use Rattle.std.specs.Prelude.{IsTrue}
 use Rattle.s3_rows.specs.Rows.{Inode, Name, Content, InodeBlock, Block, Object, Target, Attr, Slot}
 use Rattle.s3_rows.specs.Keyed.{pair_cmp, rises}
 use Rattle.s3_rows.specs.Tables.{Tables, IsOrdered, by_inode, by_name, by_entry, by_spot, by_block, by_object, by_target, by_attr, by_slot}
-use Rattle.s3_rows.specs.Batches.{after_change, finds_row, tables_after}
+use Rattle.s3_rows.specs.Batches.{after_change, finds_row, tables_after, tables_after_all}
+use Rattle.s3_rows.specs.Told.{Told, with_batch}
 use Rattle.s3_rows.proofs.Passing.{left_again}
 use Rattle.s3_rows.proofs.Placing.{absent_left, put_twice, put_rises, left_rises}
 
@@ -104,3 +105,11 @@ unchanged (changes.DeleteTarget inode) t none = ap (λ rows. record t { targets 
 unchanged (changes.DeleteAttr inode name_id) t none = ap (λ rows. record t { attrs = rows }) (absent_left by_attr (inode, name_id) t.attrs none)
 unchanged (changes.DeleteSlot slot) t none = ap (λ rows. record t { slots = rows }) (absent_left by_slot slot t.slots none)
 unchanged _ t none = absurd (cc none)
+
+-- one batch more is made of what the batches before made
+last_batch : (bs : List (List Change)) (b : List Change) (t : Tables) → tables_after_all (bs ++ b ∷ []) t ≡ tables_after b (tables_after_all bs t)
+last_batch [] b t = refl
+last_batch (c ∷ cs) b t = last_batch cs b (tables_after c t)
+
+pub folded : (first : Tables) (s : Told) (batch : List Change) → s.tables ≡ tables_after_all s.batches first → (with_batch batch s).tables ≡ tables_after_all (with_batch batch s).batches first
+folded first s batch is = ap (tables_after batch) is ∙ sym (last_batch s.batches batch first)

@@ -4,7 +4,8 @@ ghost use Rattle.std.specs.Prelude.{◌≡◌, ℕ, List, ◌++◌, [], ◌∷�
 ghost use Rattle.std.specs.List.{list_all};
 ghost use Rattle.s3_rows.specs.declared.change.Change.{Change};
 ghost use Rattle.s3_rows.specs.Tables.{Tables, IsOrdered};
-ghost use Rattle.s3_rows.specs.Batches.{after_change, finds_row, tables_after};
+ghost use Rattle.s3_rows.specs.Batches.{after_change, finds_row, tables_after, tables_after_all};
+ghost use Rattle.s3_rows.specs.Told.{Told, with_batch};
 ghost use Rattle.s3_rows.specs.Validity.{IsValid, HasUniqueNames, counts_inode, is_below_root};
 ghost use Rattle.s3_rows.specs.Stores.{IsClean, is_settled};
 ghost use Rattle.s3_rows.specs.Made.{made_tables, made_keys};
@@ -13,6 +14,12 @@ ghost use Rattle.s3_rows.specs.Worked.{forsaken_object, directories_in_a_ring, i
 /// Two batches one after the other do what they do joined.
 pub fn batches_join()
     ensures { (first second : List Change) (t : Tables) → tables_after second (tables_after first t) ≡ tables_after (first ++ second) t }
+{}
+
+/// The tables that a keeper tells stay those that it began with after its batches, one after the other.
+pub fn commits_are_folded()
+    ensures { (first : Tables) (s : Told) (batch : List Change) → s.tables ≡ tables_after_all s.batches first
+        → (with_batch batch s).tables ≡ tables_after_all (with_batch batch s).batches first }
 {}
 
 /// A change that is made twice does what it does once.
