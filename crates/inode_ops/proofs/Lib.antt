@@ -1,1 +1,5 @@
+pub mod Counted
+pub mod Opened
 pub mod Planned
+pub mod Sums
+pub mod Walked

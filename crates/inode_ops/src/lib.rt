@@ -1,7 +1,10 @@
-//! Plans of the operations on one inode.
+//! Plans of the operations on one inode, on handles and on the whole file system.
 #![tactic(auto)]
 
-mod attr;
+mod answers;
+mod attributes;
+mod handles_of;
 mod plans;
+mod statfs;
 
 pub use plans::plan;

@@ -1,5 +1,7 @@
+pub mod Answering
 pub mod Digits
 pub mod Frame
 pub mod Next
+pub mod Room
 pub mod Streams
 pub mod Turn

@@ -16,6 +16,7 @@ use Rattle.op_frames.specs.Replay.{Request, Refused, ended, with_call, replay_at
 use Rattle.offline_tool.specs.declared.reader.Next.{Next}
 use Rattle.offline_tool.specs.Input.{input_left, replay_left}
 use Rattle.offline_tool.specs.Reading.{TakesFrame, next_after, IsNext, IsOnward}
+use Rattle.std.proofs.lemmas.Bool.Decides.{nat_tests}
 
 -- ---- the frame and the input
 
@@ -48,10 +49,16 @@ op_allowed : (pass now : ℕ) (op : Op) → IsTrue (step_field.allows (Call pass
 unfolding step_field op_field
 op_allowed pass now op h = (and_parts (time_field.allows now) (is_op op) (and_parts (pass_field.allows pass) (time_field.allows now && is_op op) h).1).1
 
+time_allowed : (pass now : ℕ) (op : Op) → IsTrue (step_field.allows (Call pass now op)) → now < 2 ^ 62
+unfolding step_field op_field time_field
+time_allowed pass now op h =
+    let within : IsTrue (time_field.allows now) = (and_parts (time_field.allows now) (is_op op) (and_parts (pass_field.allows pass) (time_field.allows now && is_op op) h).1).0 in
+    grind (arith, nat_tests)
+
 pub goes_onward : (place n k : ℕ) (bytes : List ℕ) (step : Step) → length bytes ≡ n → n ≤ 4 + 262144 → n ≤ input_limit - place → place ≤ input_limit → StandsInFront step_field bytes step k → IsOnward place (next_after step (place + k))
 goes_onward place n k bytes (Call pass now op) len small room low found =
     let is = said (step_field.spell (Call pass now op)) bytes k found.spelled found.there (omega (arith, len, small)) in
-    (op_allowed pass now op found.allowed, omega (arith, is.1), omega (arith, found.there, len, room, low, is.1))
+    (op_allowed pass now op found.allowed, time_allowed pass now op found.allowed, omega (arith, is.1), omega (arith, found.there, len, room, low, is.1))
 goes_onward place n k bytes End len small room low found = tt
 
 step_next : (place n : ℕ) (bytes : List ℕ) (s : Stream) (step : Step) → bytes ≡ take n (input_left place s) → n ≤ length (input_left place s) → place + n ≤ input_limit → ReplaysStep step n place bytes (drop n (input_left place s)) → IsNext (next_after step (place + n)) place s (advanced n s)

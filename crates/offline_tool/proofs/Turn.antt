@@ -8,6 +8,8 @@ use Rattle.op_frames.specs.declared.reply.Reply.{Reply}
 use Rattle.op_frames.specs.Answers.{answer_frame, bad_input_frame}
 use Rattle.op_frames.specs.Replay.{Request, Replay, Verdict, Ended, Refused, ended, with_call, replay_of}
 use Rattle.plain_tree.specs.Tree.{Tree, made_tree}
+use Rattle.s3_rows.specs.Told.{Told}
+use Rattle.volume_core.specs.declared.row_core.RowCore.{RowCore}
 use Rattle.volume_core.specs.Built.{core_reply, core_tree, IsCoreAnswer, CoreAnswers}
 use Rattle.offline_tool.specs.declared.reader.Next.{Next}
 use Rattle.offline_tool.specs.declared.reader.Next.TheVariants as next
@@ -18,6 +20,7 @@ use Rattle.offline_tool.specs.declared.replay.Turn.TheVariants.{On}
 use Rattle.offline_tool.specs.Input.{replay_left}
 use Rattle.offline_tool.specs.Reading.{IsNext}
 use Rattle.offline_tool.specs.Output.{verdict_frame, output_of, IsOutputOf, IsReplayOutput, EndsWith, GoesOn}
+use Rattle.offline_tool.specs.Serving.{Serves}
 use Rattle.offline_tool.specs.Turns.{stopped_turn, KeepsOutput}
 
 -- ---- outputs
@@ -84,33 +87,33 @@ cut_appended frame before out old new is appends =
 
 -- ---- the turns
 
-pub stops : (size : ℕ) (input before out : List ℕ) (t : Tree) (stop : Stop) (turn : Turn) (after : Option Stream) (written : Option (List ℕ)) → turn ≡ stopped_turn stop → written ≡ Some (before ++ out) → (rest : List ℕ) × IsReplayOutput size input (out ++ rest)
-    → KeepsOutput turn size input t before after written
-stops size input before out t Fault turn after written same is front =
-    subst (λ (x : Turn). KeepsOutput x size input t before after written) (sym same) (out, is, record { whole = ⊎_elim (λ e. absurd (omega (arith, e))) (λ e. absurd (omega (arith, e))); front = front })
-stops size input before out t Memory turn after written same is front =
-    subst (λ (x : Turn). KeepsOutput x size input t before after written) (sym same) (out, is, record { whole = ⊎_elim (λ e. absurd (omega (arith, e))) (λ e. absurd (omega (arith, e))); front = front })
+pub stops : (size : ℕ) (input before out : List ℕ) (core : RowCore Told) (stop : Stop) (turn : Turn) (after : Option Stream) (written : Option (List ℕ)) → turn ≡ stopped_turn stop → written ≡ Some (before ++ out) → (rest : List ℕ) × IsReplayOutput size input (out ++ rest)
+    → KeepsOutput turn size input core before after written
+stops size input before out core Fault turn after written same is front =
+    subst (λ (x : Turn). KeepsOutput x size input core before after written) (sym same) (out, is, record { whole = ⊎_elim (λ e. absurd (omega (arith, e))) (λ e. absurd (omega (arith, e))); front = front })
+stops size input before out core Memory turn after written same is front =
+    subst (λ (x : Turn). KeepsOutput x size input core before after written) (sym same) (out, is, record { whole = ⊎_elim (λ e. absurd (omega (arith, e))) (λ e. absurd (omega (arith, e))); front = front })
 
 -- a call that was answered
-pub goes_on : (size : ℕ) (input before out : List ℕ) (t later : Tree) (place behind : ℕ) (s : Stream) (call : Request) (reply : Reply) (x : Next) (after : Option Stream) (old new : Option (List ℕ))
+pub goes_on : (size : ℕ) (input before out : List ℕ) (t later : Tree) (core : RowCore Told) (place behind : ℕ) (s : Stream) (call : Request) (reply : Reply) (x : Next) (after : Option Stream) (old new : Option (List ℕ))
     → x ≡ next.Call call.pass call.now call.op behind → (u : Stream) × (after ≡ Some u) × IsNext x place s u → IsCoreAnswer t call reply later → old ≡ Some (before ++ out) → Appends (answer_frame reply) old new
-    → GoesOn size input t (replay_left place s) out → KeepsOutput (On behind) size input later before after new
-goes_on size input before out t later place behind s call reply x after old new same following answer is appends goes =
+    → GoesOn size input t (replay_left place s) out → Serves core behind later → KeepsOutput (On behind) size input core before after new
+goes_on size input before out t later core place behind s call reply x after old new same following answer is appends goes serves =
     let u = following.0 in
     let left : replay_left place s ≡ with_call call (replay_left behind u) = subst (λ (y : Next). IsNext y place s u) same following.2 in
-    (u, out ++ answer_frame reply, following.1, appended (answer_frame reply) before out old new is appends, goes_call size input out t later call reply (replay_left place s) (replay_left behind u) left answer goes)
+    (u, out ++ answer_frame reply, later, following.1, appended (answer_frame reply) before out old new is appends, serves, goes_call size input out t later call reply (replay_left place s) (replay_left behind u) left answer goes)
 
 -- a call whose answer was not written whole
-pub answer_cut : (size : ℕ) (input before out : List ℕ) (t later : Tree) (place behind : ℕ) (s : Stream) (call : Request) (reply : Reply) (x : Next) (stop : Stop) (turn : Turn) (after : Option Stream) (old new : Option (List ℕ))
+pub answer_cut : (size : ℕ) (input before out : List ℕ) (t later : Tree) (core : RowCore Told) (place behind : ℕ) (s : Stream) (call : Request) (reply : Reply) (x : Next) (stop : Stop) (turn : Turn) (after : Option Stream) (old new : Option (List ℕ))
     → x ≡ next.Call call.pass call.now call.op behind → (u : Stream) × (after ≡ Some u) × IsNext x place s u → IsCoreAnswer t call reply later → old ≡ Some (before ++ out) → AppendsFront (answer_frame reply) old new → turn ≡ stopped_turn stop
-    → GoesOn size input t (replay_left place s) out → KeepsOutput turn size input later before after new
+    → GoesOn size input t (replay_left place s) out → KeepsOutput turn size input core before after new
 unfolding HasFront
-answer_cut size input before out t later place behind s call reply x stop turn after old new same following answer is appends ends goes =
+answer_cut size input before out t later core place behind s call reply x stop turn after old new same following answer is appends ends goes =
     let u = following.0 in
     let left : replay_left place s ≡ with_call call (replay_left behind u) = subst (λ (y : Next). IsNext y place s u) same following.2 in
     let cut = cut_appended (answer_frame reply) before out old new is appends in
     let front = has_front size input (out ++ answer_frame reply) later (replay_left behind u) (goes_call size input out t later call reply (replay_left place s) (replay_left behind u) left answer goes) in
-    stops size input before (out ++ take cut.0 (answer_frame reply)) later stop turn after new ends cut.1 (cut_front size cut.0 input out (answer_frame reply) front)
+    stops size input before (out ++ take cut.0 (answer_frame reply)) core stop turn after new ends cut.1 (cut_front size cut.0 input out (answer_frame reply) front)
 
 -- the end of the input
 pub is_ended : (size : ℕ) (input before out : List ℕ) (t : Tree) (place : ℕ) (s : Stream) (x : Next) (after : Option Stream) (old : Option (List ℕ)) → x ≡ next.End → (u : Stream) × (after ≡ Some u) × IsNext x place s u → old ≡ Some (before ++ out)
@@ -129,21 +132,21 @@ is_refused size input before out t place at s x after old new same following is 
     let output = end_output size input out t (replay_left place s) (Refused at) left goes in
     (out ++ bad_input_frame at, appended (bad_input_frame at) before out old new is appends, record { whole = λ _. output; front = ([], subst (IsReplayOutput size input) (sym (append-nil (out ++ bad_input_frame at))) output) })
 
-pub refusal_cut : (size : ℕ) (input before out : List ℕ) (t : Tree) (place at : ℕ) (s : Stream) (x : Next) (stop : Stop) (turn : Turn) (after : Option Stream) (old new : Option (List ℕ)) → x ≡ next.Refused at → (u : Stream) × (after ≡ Some u) × IsNext x place s u
-    → old ≡ Some (before ++ out) → AppendsFront (bad_input_frame at) old new → turn ≡ stopped_turn stop → GoesOn size input t (replay_left place s) out → KeepsOutput turn size input t before after new
+pub refusal_cut : (size : ℕ) (input before out : List ℕ) (t : Tree) (core : RowCore Told) (place at : ℕ) (s : Stream) (x : Next) (stop : Stop) (turn : Turn) (after : Option Stream) (old new : Option (List ℕ)) → x ≡ next.Refused at → (u : Stream) × (after ≡ Some u) × IsNext x place s u
+    → old ≡ Some (before ++ out) → AppendsFront (bad_input_frame at) old new → turn ≡ stopped_turn stop → GoesOn size input t (replay_left place s) out → KeepsOutput turn size input core before after new
 unfolding HasFront
-refusal_cut size input before out t place at s x stop turn after old new same following is appends ends goes =
+refusal_cut size input before out t core place at s x stop turn after old new same following is appends ends goes =
     let left : replay_left place s ≡ ended (Refused at) = subst (λ (y : Next). IsNext y place s following.0) same following.2 in
     let output = end_output size input out t (replay_left place s) (Refused at) left goes in
     let cut = cut_appended (bad_input_frame at) before out old new is appends in
-    stops size input before (out ++ take cut.0 (bad_input_frame at)) t stop turn after new ends cut.1
+    stops size input before (out ++ take cut.0 (bad_input_frame at)) core stop turn after new ends cut.1
     (cut_front size cut.0 input out (bad_input_frame at) ([], subst (IsReplayOutput size input) (sym (append-nil (out ++ bad_input_frame at))) output))
 
 -- nothing was read
-pub read_cut : (size : ℕ) (input before out : List ℕ) (t : Tree) (left : Replay) (stop : Stop) (turn : Turn) (after : Option Stream) (old : Option (List ℕ)) → old ≡ Some (before ++ out) → turn ≡ stopped_turn stop → GoesOn size input t left out
-    → KeepsOutput turn size input t before after old
+pub read_cut : (size : ℕ) (input before out : List ℕ) (t : Tree) (core : RowCore Told) (left : Replay) (stop : Stop) (turn : Turn) (after : Option Stream) (old : Option (List ℕ)) → old ≡ Some (before ++ out) → turn ≡ stopped_turn stop → GoesOn size input t left out
+    → KeepsOutput turn size input core before after old
 unfolding HasFront
-read_cut size input before out t left stop turn after old is ends goes = stops size input before out t stop turn after old ends is (has_front size input out t left goes)
+read_cut size input before out t core left stop turn after old is ends goes = stops size input before out core stop turn after old ends is (has_front size input out t left goes)
 
 -- ---- the whole replay
 
@@ -159,8 +162,8 @@ not_begun size input before written is =
       },
     )
 
-pub begins : (size : ℕ) (input : List ℕ) (t : Tree) → t ≡ made_tree size 0 → GoesOn size input t (replay_of input) []
-begins size input t made = λ rest output. subst (λ (u : Tree). IsOutputOf u (replay_of input) rest) made output
+pub begins : (size : ℕ) (input : List ℕ) → GoesOn size input (made_tree size 0) (replay_of input) []
+begins size input = λ rest output. output
 
 pub nothing_more : (before : List ℕ) (written : Option (List ℕ)) → written ≡ Some before → written ≡ Some (before ++ [])
 nothing_more before written is = is ∙ ap Some (sym (append-nil before))

@@ -1,5 +1,7 @@
 pub mod Input
+pub mod Limits
 pub mod Output
 pub mod Reading
+pub mod Serving
 pub mod Turns
 pub mod Words

@@ -1,5 +1,5 @@
 -- What a reader takes from a source into the front of its buffer.
-use Rattle.std.specs.Prelude.{◌≡◌, ◌⊎◌, ℕ, ◌+◌, ◌≤◌, ◌<◌, min, List, length, take, Option, Some, IsTrue}
+use Rattle.std.specs.Prelude.{◌≡◌, ◌⊎◌, ℕ, ◌+◌, ◌^◌, ◌≤◌, ◌<◌, min, List, length, take, Option, Some, IsTrue}
 use Rattle.s3_base.specs.Stream.{Stream, advanced}
 use Rattle.op_frames.specs.declared.operation.Step.{Step}
 use Rattle.op_frames.specs.declared.operation.Step.TheVariants.{Call, End}
@@ -40,8 +40,8 @@ IsNext (next.Call pass now op behind) place before after =
 IsNext next.End place before after = replay_left place before ≡ ended Ended
 IsNext (next.Refused at) place before after = replay_left place before ≡ ended (Refused at)
 
--- a call's operation is within the rules of its fields, and the next frame lies behind its own, within the limit
+-- a call's operation and time are within the rules of their fields, and the next frame lies behind its own, within the limit
 abbrev pub IsOnward : ℕ → Next → Type 0
-IsOnward place (next.Call pass now op behind) = IsTrue (is_op op) × (place < behind) × (behind ≤ input_limit)
+IsOnward place (next.Call pass now op behind) = IsTrue (is_op op) × (now < 2 ^ 62) × (place < behind) × (behind ≤ input_limit)
 IsOnward place next.End = Unit {0}
 IsOnward place (next.Refused at) = Unit {0}

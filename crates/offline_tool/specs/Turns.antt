@@ -3,8 +3,11 @@ use Rattle.std.specs.Prelude.{◌≡◌, ◌⊎◌, ℕ, ◌<◌, ◌≤◌, Lis
 use Rattle.s3_base.specs.Stream.{Stream}
 use Rattle.op_frames.specs.Replay.{Verdict, input_limit}
 use Rattle.plain_tree.specs.Tree.{Tree}
+use Rattle.s3_rows.specs.Told.{Told}
+use Rattle.volume_core.specs.declared.row_core.RowCore.{RowCore}
 use Rattle.offline_tool.specs.Input.{replay_left}
 use Rattle.offline_tool.specs.Output.{GoesOn, EndsWith, HasVerdict}
+use Rattle.offline_tool.specs.Serving.{Serves}
 use Rattle.offline_tool.specs.declared.reader.Stop.{Stop}
 use Rattle.offline_tool.specs.declared.reader.Stop.TheVariants.{Fault, Memory}
 use Rattle.offline_tool.specs.declared.replay.Turn.{Turn}
@@ -34,9 +37,15 @@ abbrev pub KeepsVerdict : Turn → Verdict → Option Stream → Type 0
 KeepsVerdict (On behind) verdict after = (t : Stream) × (after ≡ Some t) × (verdict ≡ (replay_left behind t).verdict)
 KeepsVerdict (End status) verdict after = HasVerdict status verdict
 
--- The output so far goes on, or it ends with the status. `before` is what the sink had before the replay.
-abbrev pub KeepsOutput : Turn → ℕ → List ℕ → Tree → List ℕ → Option Stream → Option (List ℕ) → Type 0
-KeepsOutput (On behind) block_size input tree before after written =
-    (t : Stream) × (out : List ℕ) × (after ≡ Some t) × (written ≡ Some (before ++ out)) × GoesOn block_size input tree (replay_left behind t) out
-KeepsOutput (End status) block_size input tree before after written =
+-- The output so far goes on with that of the tree which the core now serves, or it ends with the status. `before` is what the
+-- sink had before the replay.
+abbrev pub KeepsOutput : Turn → ℕ → List ℕ → RowCore Told → List ℕ → Option Stream → Option (List ℕ) → Type 0
+KeepsOutput (On behind) block_size input core before after written =
+    (t : Stream) × (out : List ℕ) × (tree : Tree) × (after ≡ Some t) × (written ≡ Some (before ++ out)) × Serves core behind tree × GoesOn block_size input tree (replay_left behind t) out
+KeepsOutput (End status) block_size input core before after written =
     (out : List ℕ) × (written ≡ Some (before ++ out)) × EndsWith block_size input status out
+
+-- the core can answer the next call
+abbrev pub StaysServed : Turn → RowCore Told → Type 0
+StaysServed (On behind) core = (tree : Tree) × Serves core behind tree
+StaysServed (End status) core = Unit {0}

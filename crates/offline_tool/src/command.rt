@@ -43,6 +43,6 @@ pub fn run<S: Source, T: Sink>(alloc: Global, words: &WordList, source: &mut S, 
 {
     match replay_words(words) {
         None => BAD_WORDS,
-        Some(limits) => replay(alloc, limits.block_size, source, sink),
+        Some(limits) => replay(alloc, &limits, source, sink),
     }
 }

@@ -5,6 +5,7 @@ mod command;
 mod frames;
 mod reader;
 mod replay;
+mod served;
 mod words;
 
 pub use command::run;

@@ -6,14 +6,18 @@ ghost use Rattle.op_frames.specs.Answers.{has_short_data, answer_frame, bad_inpu
 ghost use Rattle.op_frames.specs.Replay.{replay_of};
 ghost use Rattle.offline_tool.specs.Input.{replay_left};
 ghost use Rattle.offline_tool.specs.Output.{EndsWith, GoesOn, HasVerdict};
-ghost use Rattle.offline_tool.specs.Turns.{stopped_turn, IsStatus, IsTurn, HasFault, KeepsVerdict, KeepsOutput};
+ghost use Rattle.plain_tree.specs.Tree.{Tree};
+ghost use Rattle.offline_tool.specs.Limits.{AreWithin};
+ghost use Rattle.offline_tool.specs.Serving.{Serves};
+ghost use Rattle.offline_tool.specs.Turns.{stopped_turn, IsStatus, IsTurn, HasFault, KeepsVerdict, KeepsOutput, StaysServed};
 
 use crate::frames::MAX_FRAME;
 use crate::reader::{self, Next, Stop};
+use crate::served::{self, Served};
+use crate::words::Limits;
 use op_frames::{Reply, encode_answer, encode_bad_input};
 use s3_base::{Sink, Source};
 use std::alloc::Global;
-use volume_core::PlainCore;
 
 /// The statuses of a replay.
 const DONE: u8 = 0;
@@ -76,7 +80,7 @@ fn put_bad_input<T: Sink>(alloc: Global, sink: &mut T, place: u64) -> Result<(),
 /// Reads the frame at `place`, and answers it.
 fn take_turn<S: Source, T: Sink>(
     alloc: Global,
-    core: &mut PlainCore,
+    core: &mut Served,
     source: &mut S,
     sink: &mut T,
     buffer: &mut [u8],
@@ -84,14 +88,16 @@ fn take_turn<S: Source, T: Sink>(
 ) -> Turn
     requires buffer { length buffer.old ≡ 4 + 262144 }
     requires place { place ≤ 2 ^ 40 }
+    requires serves { (tree : Tree) × Serves core.old place tree }
     ensures turn { IsTurn place result }
+    ensures serves { StaysServed result core.new }
     ensures source_later { S.faults source.old ≤ S.faults source.new }
     ensures sink_later { T.faults sink.old ≤ T.faults sink.new }
     ensures fault { HasFault result (HasRisen (S.faults source.old) (S.faults source.new) ⊎ HasRisen (T.faults sink.old) (T.faults sink.new)) }
     ensures verdict { (s : Stream) → S.told source.old ≡ Some s
         → KeepsVerdict result (replay_left place s).verdict (S.told source.new) }
-    ensures output { (s : Stream) (block_size : ℕ) (input before out : List ℕ) → S.told source.old ≡ Some s
-        → T.written sink.old ≡ Some (before ++ out) → GoesOn block_size input core.old (replay_left place s) out
+    ensures output { (s : Stream) (block_size : ℕ) (input before out : List ℕ) (tree : Tree) → S.told source.old ≡ Some s
+        → T.written sink.old ≡ Some (before ++ out) → Serves core.old place tree → GoesOn block_size input tree (replay_left place s) out
         → KeepsOutput result block_size input core.new before (S.told source.new) (T.written sink.new) }
 {
     match reader::next_step(alloc, source, buffer, place) {
@@ -103,7 +109,7 @@ fn take_turn<S: Source, T: Sink>(
                 behind,
             },
         ) => {
-            let reply = core.answer(pass, &op, now);
+            let reply = served::answer(core, pass, &op, now);
             match put_answer(alloc, sink, &reply) {
                 Ok(()) => Turn::On(behind),
                 Err(stop) => stopped(stop),
@@ -118,20 +124,21 @@ fn take_turn<S: Source, T: Sink>(
     }
 }
 
-/// Answers the calls of an input, from a file system that was just made with blocks of `block_size` bytes.
+/// Answers the calls of an input, from a file system that is made with these limits.
 pub fn replay<S: Source, T: Sink>(
     alloc: Global,
-    block_size: u32,
+    limits: &Limits,
     source: &mut S,
     sink: &mut T,
 ) -> u8
+    requires { AreWithin limits.now }
     ensures status { IsStatus result }
     ensures fault { result ≡ 1 → HasRisen (S.faults source.old) (S.faults source.new) ⊎ HasRisen (T.faults sink.old) (T.faults sink.new) }
     ensures verdict { (s : Stream) → S.told source.old ≡ Some s → HasVerdict result (replay_of s.left).verdict }
     ensures output { (s : Stream) (before : List ℕ) → S.told source.old ≡ Some s → T.written sink.old ≡ Some before
-        → (out : List ℕ) × (T.written sink.new ≡ Some (before ++ out)) × EndsWith block_size s.left result out }
+        → (out : List ℕ) × (T.written sink.new ≡ Some (before ++ out)) × EndsWith limits.now.block_size s.left result out }
 {
-    let Ok(mut core) = PlainCore::new(alloc, block_size, 0) else {
+    let Ok(mut core) = served::open_made(alloc, limits.block_size, limits.slots) else {
         return NO_MEMORY;
     };
     let Ok(mut buffer) = vec![in alloc; 0u8; MAX_FRAME] else {

@@ -1,7 +1,8 @@
 //! The words of a command.
-ghost use Rattle.std.specs.Prelude.{◌≡◌, ◌-◌, ◌^◌, ◌<◌, ◌≤◌, ℕ, min, IsTrue, option_map, Some};
+ghost use Rattle.std.specs.Prelude.{◌≡◌, ◌-◌, ◌^◌, ◌<◌, ◌≤◌, ℕ, min, IsTrue, IfSome, option_map, Some};
 ghost use Rattle.std.specs.List.{list_all};
 ghost use Rattle.std.specs.Str.Parse.{digits_value};
+ghost use Rattle.offline_tool.specs.Limits.{AreWithin};
 ghost use Rattle.offline_tool.specs.Words as words;
 ghost use Rattle.offline_tool.specs.Words.{is_digit, limits_from, limits_of};
 
@@ -50,7 +51,8 @@ fn value_of(digits: &[u8]) -> u64
 
 /// The number that a word spells, if it is from `low` to `high`.
 fn number_within(low: u32, high: u32, word: &[u8]) -> Option<u32>
-    ensures { result ≡ words.number_within low high word.now }
+    ensures number { result ≡ words.number_within low high word.now }
+    ensures within { IfSome result (λ n. (low ≤ n) × (n ≤ high)) }
 {
     if !is_numeral(word) {
         return None;
@@ -64,7 +66,11 @@ fn number_within(low: u32, high: u32, word: &[u8]) -> Option<u32>
 
 /// The limits, if the blocks of the cache and those of the slots take no more than the most bytes.
 fn limits_within(block_size: u32, cache: u32, slots: u32) -> Option<Limits>
-    ensures { option_map (λ l. record { block_size = l.block_size; cache = l.cache; slots = l.slots }) result ≡ limits_from (Some block_size) (Some cache) (Some slots) }
+    requires least { 4096 ≤ block_size }
+    requires greatest { block_size ≤ 10485760 }
+    requires slots { slots ≤ 65536 }
+    ensures within { IfSome result AreWithin }
+    ensures limits { option_map (λ l. record { block_size = l.block_size; cache = l.cache; slots = l.slots }) result ≡ limits_from (Some block_size) (Some cache) (Some slots) }
 {
     let (block, cached, kept) = (block_size as u64, cache as u64, slots as u64);
     if cached * block > MAX_BYTES || kept * block > MAX_BYTES {
@@ -79,7 +85,8 @@ fn limits_within(block_size: u32, cache: u32, slots: u32) -> Option<Limits>
 
 /// What the words of a replay say, if these are such words.
 pub fn replay_words(words: &WordList) -> Option<Limits>
-    ensures { option_map (λ l. record { block_size = l.block_size; cache = l.cache; slots = l.slots }) result ≡ limits_of words.now }
+    ensures within { IfSome result AreWithin }
+    ensures limits { option_map (λ l. record { block_size = l.block_size; cache = l.cache; slots = l.slots }) result ≡ limits_of words.now }
 {
     let [command, block_size, cache, slots] = words.as_slice() else {
         return None;

@@ -1,14 +1,14 @@
 -- How long replies are: short enough for a frame.
-use Rattle.std.proofs.Common.{◌≡◌, ℕ, suc, ◌+◌, ◌*◌, ◌<◌, ◌≤◌, ◌^◌, IsTrue, Bool, true, leb, List, [], ◌∷◌, ◌++◌, length, flat_map, refl, ap, ◌∙◌, arith}
+use Rattle.std.proofs.Common.{◌≡◌, ℕ, suc, ◌+◌, ◌*◌, ◌<◌, ◌≤◌, ◌^◌, IsTrue, Bool, true, leb, List, [], ◌∷◌, ◌++◌, length, Option, None, Some, flat_map, refl, ap, ◌∙◌, arith}
 use Rattle.std.specs.List.{list_all}
-use Rattle.std.proofs.lemmas.Bool.{leb-true, and_parts}
+use Rattle.std.proofs.lemmas.Bool.{leb-true, eqb-true, and_parts}
 use Rattle.std.proofs.lemmas.List.{length-append}
 use Rattle.op_frames.specs.declared.reply.Attr.{Attr}
 use Rattle.op_frames.specs.declared.reply.DirEntry.{DirEntry}
 use Rattle.op_frames.specs.declared.reply.Reply.{Reply}
 use Rattle.op_frames.specs.declared.reply.Reply.TheVariants as replies
 use Rattle.op_frames.specs.Operations.{u16_field, u32_field, u64_field, name_field, data_length_field, data_field}
-use Rattle.op_frames.specs.Answers.{attr_spelling, names_spelling, entry_spelling, entries_spelling, reply_spelling, is_short_name, has_short_name, has_short_data}
+use Rattle.op_frames.specs.Answers.{attr_spelling, names_spelling, entry_spelling, entries_spelling, got_spelling, reply_spelling, is_short_name, has_short_name, is_digest, is_digest_or_none, has_short_data}
 
 attr_length : (a : Attr) → length (attr_spelling a) ≡ 52
 unfolding u16_field u32_field u64_field
@@ -50,6 +50,11 @@ entries_length entries few h =
     let sum = pieces_length 266 entry_spelling has_short_name (λ e short. let s = name_short e.name short in omega (arith, s, entry_length e)) entries h in
     omega (arith, few, sum)
 
+-- a byte, and a digest if there is one
+got_length : (got : Option (List ℕ)) → is_digest_or_none got ≡ true → length (got_spelling got) ≤ 33
+got_length None h = omega arith
+got_length (Some digest) h = let size = eqb-true (length digest) 32 h in omega (arith, size)
+
 -- the tag of an answer, and a reply with its data
 pub reply_short : (reply : Reply) → IsTrue (has_short_data reply) → length (reply_spelling reply) ≤ 131077
 unfolding u16_field u32_field u64_field data_field data_length_field
@@ -69,6 +74,11 @@ reply_short (replies.Names names) h =
 reply_short (replies.Stat block_size inodes entries bytes) h = omega arith
 reply_short (replies.Errno errno) h = omega arith
 reply_short (replies.Fault cause) h = omega arith
+reply_short (replies.Lost object kept got) h =
+    let parts = and_parts (is_digest kept) (is_digest_or_none got) h in
+    let size = eqb-true (length kept) 32 parts.0 in
+    let most = got_length got parts.1 in
+    omega (arith, size, most, length-append kept (got_spelling got))
 
 -- a body that begins with a tag or with nothing
 pub reply_fits : (body start : List ℕ) (reply : Reply) → IsTrue (has_short_data reply) → length start ≤ 1 → body ≡ start ++ reply_spelling reply → length body < 2 ^ 32

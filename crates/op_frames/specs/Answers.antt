@@ -1,5 +1,5 @@
 -- Replies, answers of a replay, and their frames.
-use Rattle.std.specs.Prelude.{ℕ, List, [], ◌∷◌, ◌++◌, length, Bool, true, ◌&&◌, nat_le, flat_map, if◌then◌else◌}
+use Rattle.std.specs.Prelude.{ℕ, List, [], ◌∷◌, ◌++◌, length, ◌==◌, Bool, true, ◌&&◌, nat_le, flat_map, if◌then◌else◌, Option, None, Some}
 use Rattle.std.specs.List.{list_all}
 use Rattle.op_frames.specs.declared.reply.Attr.{Attr}
 use Rattle.op_frames.specs.declared.reply.DirEntry.{DirEntry}
@@ -44,6 +44,11 @@ entry_spelling e = u64_field.spell e.inode ++ (kind_code e.kind ∷ []) ++ name_
 abbrev pub entries_spelling : List DirEntry → List ℕ
 entries_spelling entries = u16_field.spell (length entries) ++ flat_map entry_spelling entries
 
+-- the digest of what a store gave, if it gave any bytes: 0, or 1 and the digest
+abbrev pub got_spelling : Option (List ℕ) → List ℕ
+got_spelling None = 0 ∷ []
+got_spelling (Some digest) = (1 ∷ []) ++ digest
+
 -- the tag of a reply, and its fields
 abbrev pub reply_spelling : Reply → List ℕ
 reply_spelling replies.Done = 1 ∷ []
@@ -56,6 +61,7 @@ reply_spelling (replies.Names names) = (7 ∷ []) ++ names_spelling names
 reply_spelling (replies.Stat block_size inodes entries bytes) = (8 ∷ []) ++ u32_field.spell block_size ++ u64_field.spell inodes ++ u64_field.spell entries ++ u64_field.spell bytes
 reply_spelling (replies.Errno errno) = (9 ∷ []) ++ u16_field.spell errno.0
 reply_spelling (replies.Fault cause) = (10 ∷ []) ++ (cause_code cause ∷ [])
+reply_spelling (replies.Lost object kept got) = (11 ∷ []) ++ u64_field.spell object ++ kept ++ got_spelling got
 
 abbrev pub is_short_name : List ℕ → Bool
 is_short_name name = nat_le (length name) 255
@@ -63,11 +69,20 @@ is_short_name name = nat_le (length name) 255
 abbrev pub has_short_name : DirEntry → Bool
 has_short_name e = is_short_name e.name
 
--- its data, if it has any, fit into one frame: so many bytes, or at most 256 items with names of at most 255 bytes
+-- a SHA-256 has 32 bytes
+abbrev pub is_digest : List ℕ → Bool
+is_digest digest = length digest == 32
+
+abbrev pub is_digest_or_none : Option (List ℕ) → Bool
+is_digest_or_none None = true
+is_digest_or_none (Some digest) = is_digest digest
+
+-- its data, if it has any, fit into one frame: so many bytes, or at most 256 items with names of at most 255 bytes, or digests
 abbrev pub has_short_data : Reply → Bool
 has_short_data (replies.Bytes bytes) = nat_le (length bytes) 131072
 has_short_data (replies.Entries entries) = nat_le (length entries) 256 && list_all has_short_name entries
 has_short_data (replies.Names names) = nat_le (length names) 256 && list_all is_short_name names
+has_short_data (replies.Lost object kept got) = is_digest kept && is_digest_or_none got
 has_short_data _ = true
 
 -- the bare frame of a reply

@@ -4,7 +4,7 @@ ghost use Rattle.std.specs.List.{list_all};
 ghost use Rattle.op_frames.specs.declared.reply.Reply.TheVariants as replies;
 ghost use Rattle.op_frames.specs.Operations.{u16_field, u32_field, u64_field, name_field, data_field};
 ghost use Rattle.op_frames.specs.Frames.{framed};
-ghost use Rattle.op_frames.specs.Answers.{kind_code, cause_code, flag_code, attr_spelling, names_spelling, entry_spelling, entries_spelling, reply_spelling, is_short_name, has_short_name, has_short_data, reply_frame, answer_frame, bad_input_frame};
+ghost use Rattle.op_frames.specs.Answers.{kind_code, cause_code, flag_code, attr_spelling, names_spelling, entry_spelling, entries_spelling, got_spelling, reply_spelling, is_short_name, has_short_name, has_short_data, reply_frame, answer_frame, bad_input_frame};
 
 use crate::{Attr, Cause, DirEntry, DirEntryList, NameList, Reply};
 use byteorder::{BigEndian, ByteOrder};
@@ -177,6 +177,32 @@ fn put_cause(out: &mut ByteList, cause: Cause) -> Result<(), AllocError>
     out.push(code_of_cause(cause))
 }
 
+fn put_got(out: &mut ByteList, got: &Option<[u8; 32]>) -> Result<(), AllocError>
+    ensures { OnOk result (out.new ≡ out.old ++ got_spelling got.now) }
+{
+    match got {
+        None => out.push(0),
+        Some(digest) => {
+            out.push(1)?;
+            out.extend_from_slice(digest)
+        }
+    }
+}
+
+fn put_lost(
+    out: &mut ByteList,
+    object: u64,
+    kept: &[u8; 32],
+    got: &Option<[u8; 32]>,
+) -> Result<(), AllocError>
+    ensures { OnOk result (out.new ≡ out.old ++ reply_spelling (replies.Lost object kept.now got.now)) }
+{
+    out.push(11)?;
+    put_u64(out, object)?;
+    out.extend_from_slice(kept)?;
+    put_got(out, got)
+}
+
 fn put_reply(out: &mut ByteList, reply: &Reply) -> Result<(), AllocError>
     requires { IsTrue (has_short_data reply.now) }
     ensures { OnOk result (out.new ≡ out.old ++ reply_spelling reply.now) }
@@ -209,6 +235,7 @@ fn put_reply(out: &mut ByteList, reply: &Reply) -> Result<(), AllocError>
         } => put_stat(out, *block_size, *inodes, *entries, *bytes),
         Reply::Errno(errno) => put_errno(out, *errno),
         Reply::Fault(cause) => put_cause(out, *cause),
+        Reply::Lost { object, kept, got } => put_lost(out, *object, kept, got),
     }
 }
 

@@ -55,4 +55,11 @@ pub enum Reply {
     },
     Errno(Errno),
     Fault(Cause),
+    /// The stored object does not hold the block: its number, the SHA-256 that it should have, and the one that it has,
+    /// if the store gave any bytes.
+    Lost {
+        object: u64,
+        kept: [u8; 32],
+        got: Option<[u8; 32]>,
+    },
 }

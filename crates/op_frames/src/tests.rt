@@ -253,6 +253,48 @@ fn long_numbers(rt: HostRuntime) -> Result<(), Fail> {
     Ok(())
 }
 
+// The 32 bytes 0 to 31, and 255 down to 224.
+const KEPT: [u8; 32] = [
+    0, 1, 2, 3, 4, 5, 6, 7, 8, 9, 10, 11, 12, 13, 14, 15, 16, 17, 18, 19, 20, 21, 22, 23, 24, 25,
+    26, 27, 28, 29, 30, 31,
+];
+
+const GOT: [u8; 32] = [
+    255, 254, 253, 252, 251, 250, 249, 248, 247, 246, 245, 244, 243, 242, 241, 240, 239, 238, 237,
+    236, 235, 234, 233, 232, 231, 230, 229, 228, 227, 226, 225, 224,
+];
+
+#[test]
+fn lost(rt: HostRuntime) -> Result<(), Fail> {
+    // 1 + 8 + 32 + 1 bytes.
+    let nothing = encode_reply(
+        rt.alloc(),
+        &Reply::Lost {
+            object: 1,
+            kept: KEPT,
+            got: None,
+        },
+    )?;
+    assert_eq!(rt;
+        nothing.as_slice(),
+        b"\x00\x00\x00\x2a\x0b\x00\x00\x00\x00\x00\x00\x00\x01\x00\x01\x02\x03\x04\x05\x06\x07\x08\x09\x0a\x0b\x0c\x0d\x0e\x0f\x10\x11\x12\x13\x14\x15\x16\x17\x18\x19\x1a\x1b\x1c\x1d\x1e\x1f\x00".as_slice()
+    );
+    // 1 + 1 + 8 + 32 + 1 + 32 bytes.
+    let other = encode_answer(
+        rt.alloc(),
+        &Reply::Lost {
+            object: 1,
+            kept: KEPT,
+            got: Some(GOT),
+        },
+    )?;
+    assert_eq!(rt;
+        other.as_slice(),
+        b"\x00\x00\x00\x4b\x01\x0b\x00\x00\x00\x00\x00\x00\x00\x01\x00\x01\x02\x03\x04\x05\x06\x07\x08\x09\x0a\x0b\x0c\x0d\x0e\x0f\x10\x11\x12\x13\x14\x15\x16\x17\x18\x19\x1a\x1b\x1c\x1d\x1e\x1f\x01\xff\xfe\xfd\xfc\xfb\xfa\xf9\xf8\xf7\xf6\xf5\xf4\xf3\xf2\xf1\xf0\xef\xee\xed\xec\xeb\xea\xe9\xe8\xe7\xe6\xe5\xe4\xe3\xe2\xe1\xe0".as_slice()
+    );
+    Ok(())
+}
+
 #[test]
 fn lists(rt: HostRuntime) -> Result<(), Fail> {
     let mut list = NameList::new(rt.alloc());

@@ -1,7 +1,7 @@
 //! Counts of names.
-ghost use Rattle.std.specs.Prelude.{◌≡◌, ◌<◌, ◌≤◌, ◌^◌, ◌++◌, ℕ, IfOk, OnOk, length};
+ghost use Rattle.std.specs.Prelude.{◌≡◌, ◌<◌, ◌≤◌, ◌^◌, ◌++◌, ℕ, IfOk, IfSome, OnOk, length};
 ghost use Rattle.s3_base.specs.Faults.{HasCause};
-ghost use Rattle.s3_rows.specs.Rows.{IsText};
+ghost use Rattle.s3_rows.specs.Rows.{IsId, IsText};
 ghost use Rattle.s3_rows.specs.Tables.{Tables, IsOrdered};
 ghost use Rattle.s3_rows.specs.Batches.{after_change, tables_after};
 ghost use Rattle.s3_rows.specs.Selections.{name_of_bytes};
@@ -58,7 +58,8 @@ fn found_after_change(
 
 /// Adds one more use of a name that is there.
 fn raise(batch: &mut Batch, row: NameRow) -> Result<Option<u64>, AllocError>
-    ensures { IfOk result (λ id. IsRaised (raised_row row) batch.old id batch.new) }
+    ensures raised { IfOk result (λ id. IsRaised (raised_row row) batch.old id batch.new) }
+    ensures id { IfOk result (λ id. IfSome id IsId) }
 {
     let refcount = row.refcount + 1;
     if refcount >= LIMIT {
@@ -76,7 +77,8 @@ fn raise(batch: &mut Batch, row: NameRow) -> Result<Option<u64>, AllocError>
 /// Adds a new name with one use.
 fn add_new(batch: &mut Batch, name: &ByteList, params: Params) -> Result<Option<u64>, AllocError>
     requires { IsText 255 name.now }
-    ensures { IfOk result (λ id. IsRaised (new_row name.now params) batch.old id batch.new) }
+    ensures raised { IfOk result (λ id. IsRaised (new_row name.now params) batch.old id batch.new) }
+    ensures id { IfOk result (λ id. IfSome id IsId) }
 {
     let id = params.next_name;
     if id >= LIMIT {
@@ -156,6 +158,7 @@ pub fn name_up<K: Keeper>(
     requires ordered { IfTold (K.told keeper.old) IsOrdered }
     requires unique { IfTold (K.told keeper.old) (StaysUnique batch.old) }
     ensures raised { IfOk result (λ id. IfTold (K.told keeper.old) (λ t. IsRaised (raised (tables_after batch.old t) name.now) batch.old id batch.new)) }
+    ensures id { IfOk result (λ id. IfSome id IsId) }
     ensures same { K.told keeper.new ≡ K.told keeper.old }
     ensures cause { HasCause (K.faults keeper.old) (K.faults keeper.new) (has_failed result) }
 {

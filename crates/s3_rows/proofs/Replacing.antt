@@ -1,4 +1,4 @@
--- A put that replaces an inode's row by one of the same kind, count and size.
+-- A put that replaces an inode's row by one of the same kind and count.
 use Rattle.std.proofs.Common.{◌≡◌, ℕ, zero, suc, List, [], ◌∷◌, length, map, Bool, true, false, cond, not, ◌&&◌, ◌||◌, Option, None, Some, refl, sym, ap, ◌∙◌}
 use Rattle.std.proofs.lemmas.List.{length-map}
 use Rattle.std.specs.Prelude.{IsTrue, ◌==◌, ◌*◌, is_some, option_map, nat_lt}
@@ -86,7 +86,7 @@ leads_same t rows (suc steps) id = by_case (leads_same t rows steps) (parent_of 
     by_case rest None = refl
     by_case rest (Some x) = ap (λ b. id == root || b) (rest x)
 
--- ---- a row of the same key, kind, count and size
+-- ---- a row of the same key, kind and count
 
 -- what is told of a row, if there is one
 abbrev told : (Inode → Bool) → Option Inode → Bool
@@ -95,7 +95,7 @@ told g found = elim found [ Some r ↦ g r | None ↦ false ]
 key_of : (x : ℕ) (r : Inode) → IsTrue (has_key by_inode x r) → x ≡ r.id
 key_of x r same = nat_cmp-IsAntisymmetric x r.id (is_equal (nat_cmp x r.id) same)
 
-module _ (t : Tables) (r new : Inode) (found : inode_at t new.id ≡ Some r) (kind : new.kind ≡ r.kind) (refcount : new.refcount ≡ r.refcount) (size : new.size ≡ r.size) where
+module _ (t : Tables) (r new : Inode) (found : inode_at t new.id ≡ Some r) (kind : new.kind ≡ r.kind) (refcount : new.refcount ≡ r.refcount) where
   abbrev u : Tables
   u = record t { inodes = put by_inode new t.inodes }
 
@@ -112,8 +112,8 @@ module _ (t : Tables) (r new : Inode) (found : inode_at t new.id ≡ Some r) (ki
   has_same : (test : Kind → Bool) (x : ℕ) → has_inode test u x ≡ has_inode test t x
   has_same test x = told_same (λ y. test y.kind) (ap test kind) x
 
-  in_file_same : (p : Parameters) (inode blockno : ℕ) → is_in_file u p inode blockno ≡ is_in_file t p inode blockno
-  in_file_same p inode blockno = told_same (λ y. nat_lt (blockno * p.block_size) y.size) (ap (λ n. nat_lt (blockno * p.block_size) n) size) inode
+  in_file_same : (p : Parameters) → new.size ≡ r.size → (inode blockno : ℕ) → is_in_file u p inode blockno ≡ is_in_file t p inode blockno
+  in_file_same p size inode blockno = told_same (λ y. nat_lt (blockno * p.block_size) y.size) (ap (λ n. nat_lt (blockno * p.block_size) n) size) inode
 
   entry_same : (y : Content) → finds_of_entry u y ≡ finds_of_entry t y
   entry_same y = λ i. (has_same is_directory y.parent) i && is_some (name_at t y.name_id) && (has_same any_kind y.inode) i
@@ -162,11 +162,11 @@ module _ (t : Tables) (r new : Inode) (found : inode_at t new.id ≡ Some r) (ki
     keeps_lost_and_found = any_follows (is_lost_and_found t) (is_lost_and_found u) (λ y own. lost_and_found_same y ∙ own) t.contents tree.keeps_lost_and_found;
   }
 
-  sizes_kept : (p : Parameters) → HasItsSizes t p → HasItsSizes u p
-  sizes_kept p has = record {
+  sizes_kept : (p : Parameters) → new.size ≡ r.size → HasItsSizes t p → HasItsSizes u p
+  sizes_kept p size has = record {
     inodes = passes (has_its_size t) size_same has.inodes;
-    inode_blocks = all_pass (λ y. is_in_file t p y.inode y.blockno) (λ y. is_in_file u p y.inode y.blockno) (λ y own. in_file_same p y.inode y.blockno ∙ own) t.inode_blocks has.inode_blocks;
-    slots = all_pass (λ y. is_in_file t p y.inode y.blockno) (λ y. is_in_file u p y.inode y.blockno) (λ y own. in_file_same p y.inode y.blockno ∙ own) t.slots has.slots;
+    inode_blocks = all_pass (λ y. is_in_file t p y.inode y.blockno) (λ y. is_in_file u p y.inode y.blockno) (λ y own. in_file_same p size y.inode y.blockno ∙ own) t.inode_blocks has.inode_blocks;
+    slots = all_pass (λ y. is_in_file t p y.inode y.blockno) (λ y. is_in_file u p y.inode y.blockno) (λ y own. in_file_same p size y.inode y.blockno ∙ own) t.slots has.slots;
     spots = has.spots;
     numbers = has.numbers;
     lengths = has.lengths;
@@ -175,8 +175,22 @@ module _ (t : Tables) (r new : Inode) (found : inode_at t new.id ≡ Some r) (ki
       size_same : has_its_size t new ≡ has_its_size t r
       size_same = λ i. elim (kind i) [ kinds.Directory ↦ size i == 0 | kinds.Regular ↦ true | kinds.Link ↦ is_number (size i) (option_map (λ x. length x.target) (target_at t (ids i))) ]
 
-  kept : IsValid t → IsValid u
-  kept v = record {
+  -- a regular file may have any size where no blocks lie in files
+  sizes_fit : (p : Parameters) → new.kind ≡ kinds.Regular → t.inode_blocks ≡ [] → t.slots ≡ [] → HasItsSizes t p → HasItsSizes u p
+  sizes_fit p regular no_blocks no_slots has = record {
+    inodes = all_put by_inode (has_its_size t) new t.inodes fits has.inodes;
+    inode_blocks = ap (list_all (λ y. is_in_file u p y.inode y.blockno)) no_blocks;
+    slots = ap (list_all (λ y. is_in_file u p y.inode y.blockno)) no_slots;
+    spots = has.spots;
+    numbers = has.numbers;
+    lengths = has.lengths;
+  }
+    where
+      fits : IsTrue (has_its_size t new)
+      fits = ap (λ k. elim k [ kinds.Directory ↦ new.size == 0 | kinds.Regular ↦ true | kinds.Link ↦ is_number new.size (option_map (λ x. length x.target) (target_at t new.id)) ]) regular
+
+  kept : (v : IsValid t) → HasItsSizes u v.params → IsValid u
+  kept v sizes = record {
     params = v.params;
     is_made = v.is_made;
     ordered = record {
@@ -200,7 +214,7 @@ module _ (t : Tables) (r new : Inode) (found : inode_at t new.id ≡ Some r) (ki
     tree = tree_kept v.ordered.inodes v.tree;
     orphans = passes (is_no_lost_directory t) (λ i. ids i == root || is_named t (ids i) || not (is_directory (kind i))) v.orphans;
     blocks = record { digests = v.blocks.digests; objects = v.blocks.objects; sizes = v.blocks.sizes; within = v.blocks.within };
-    sizes = sizes_kept v.params v.sizes;
+    sizes = sizes;
     free = record {
       inodes = passes (λ y. nat_lt y.id v.params.next_inode) (λ i. nat_lt (ids i) v.params.next_inode) v.free.inodes;
       names = v.free.names;
@@ -211,4 +225,10 @@ module _ (t : Tables) (r new : Inode) (found : inode_at t new.id ≡ Some r) (ki
 
 -- a put that replaces a row by one of the same kind, count and size leaves tables valid
 pub replaced_valid : (t : Tables) (r new : Inode) → IsValid t → inode_at t new.id ≡ Some r → new.kind ≡ r.kind → new.refcount ≡ r.refcount → new.size ≡ r.size → IsValid (after_change (changes.PutInode new) t)
-replaced_valid t r new valid found kind refcount size = kept t r new found kind refcount size valid
+replaced_valid t r new valid found kind refcount size = kept t r new found kind refcount valid (sizes_kept t r new found kind refcount valid.params size valid.sizes)
+
+-- and so does one of a regular file of another size, where no blocks lie in files
+pub resized_valid : (t : Tables) (r new : Inode) → IsValid t → inode_at t new.id ≡ Some r → new.kind ≡ r.kind → new.refcount ≡ r.refcount → new.kind ≡ kinds.Regular → t.inode_blocks ≡ [] → t.slots ≡ []
+    → IsValid (after_change (changes.PutInode new) t)
+resized_valid t r new valid found kind refcount regular no_blocks no_slots =
+    kept t r new found kind refcount valid (sizes_fit t r new found kind refcount valid.params regular no_blocks no_slots valid.sizes)

@@ -83,7 +83,7 @@ links_of t whole x r v same is below = by_case (x == root) refl
             let clash : true ≡ false = sym (ap (λ y. y == root) equal) ∙ here in
             cc clash
 
-attr_alike : (t : Tables) (whole : Tree) (x : ℕ) (r : Inode) (node : Node) → IsValid t → Represents t whole → inode_at t x ≡ Some r → r.refcount < 2 ^ 62 → shape_of_node node ≡ node_of_row t r
+pub attr_alike : (t : Tables) (whole : Tree) (x : ℕ) (r : Inode) (node : Node) → IsValid t → Represents t whole → inode_at t x ≡ Some r → r.refcount < 2 ^ 62 → shape_of_node node ≡ node_of_row t r
     → attr_of whole x node ≡ attr_of_row r
 attr_alike t whole x r node v same is below shape =
     let content : shape_of_content node.content ≡ content_of_kind t r r.kind = ap (λ (s : NodeShape). s.content) shape in

@@ -1,5 +1,9 @@
-mod Bytes
-mod Counts
-mod Names
-mod Numbers
-mod Outcome
+pub mod Answered
+pub mod Carried
+pub mod Changed
+pub mod Effects
+pub mod Looking
+pub mod Opened
+pub mod Resized
+pub mod Standing
+pub mod Written

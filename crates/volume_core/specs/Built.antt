@@ -1,5 +1,6 @@
--- Which operations the core has, and what it answers. When an operation is built, its code goes into `is_built`.
-use Rattle.std.specs.Prelude.{◌≡◌, ◌⊎◌, ℕ, ◌==◌, ◌||◌, List, [], ◌∷◌, Bool, IsTrue, if◌then◌else◌}
+-- Which operations the core has, and what it answers. When an operation is built, its code goes into `is_built_code`.
+use Rattle.std.specs.Prelude.{◌≡◌, ◌⊎◌, ℕ, ◌==◌, List, [], ◌∷◌, Bool, IsTrue, if◌then◌else◌}
+use Rattle.std.specs.List.{list_any}
 use Rattle.op_frames.specs.declared.operation.Op.{Op}
 use Rattle.op_frames.specs.declared.reply.Reply.{Reply}
 use Rattle.op_frames.specs.declared.reply.Reply.TheVariants as replies
@@ -9,9 +10,10 @@ use Rattle.plain_tree.specs.Tree.{Tree}
 use Rattle.plain_tree.specs.Operations.{reply_to, tree_after}
 use Rattle.plain_tree.specs.Calls.{no_memory}
 
--- the codes of the operations that are built: Getattr, Create, Read and Write
+-- the codes of the operations that are built: Getattr, Chmod, Chown, Utimes, Truncate, Create, Open, Release, Read, Write,
+-- Statfs and Leave
 abbrev pub is_built_code : ℕ → Bool
-is_built_code code = code == 2 || code == 8 || code == 17 || code == 18
+is_built_code code = list_any (λ built. built == code) (2 ∷ 3 ∷ 4 ∷ 5 ∷ 6 ∷ 8 ∷ 15 ∷ 16 ∷ 17 ∷ 18 ∷ 21 ∷ 32 ∷ [])
 
 abbrev pub is_built : Op → Bool
 is_built op = is_built_code (op_code op)

@@ -1,5 +1,8 @@
+pub mod Answers
 pub mod Built
-pub mod Core
-pub mod Node
+pub mod Files
+pub mod Opening
+pub mod Plans
 pub mod Refusals
-pub mod Sound
+pub mod Rows
+pub mod Standing

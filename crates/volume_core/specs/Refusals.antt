@@ -1,29 +1,35 @@
 -- How a call of the core ends.
-use Rattle.std.specs.Prelude.{◌≡◌, ℕ, Option, None, Some, Result, Ok, Err}
+use Rattle.std.specs.Prelude.{◌≡◌, ℕ, not, Option, None, Some, Result, Ok, Err}
 use Rattle.s3_base.specs.declared.errors.Errno.{Errno}
 use Rattle.op_frames.specs.declared.operation.Op.{Op}
 use Rattle.op_frames.specs.declared.reply.Reply.{Reply}
 use Rattle.plain_tree.specs.Tree.{Tree}
 use Rattle.plain_tree.specs.Checks.{first_failure}
 use Rattle.plain_tree.specs.Operations.{checks, effect, success}
+use Rattle.s3_rows.specs.Told.{Told, IfTold}
+use Rattle.ref_counts.specs.Plans.{IsWorn, keeps_rows}
 use Rattle.volume_core.specs.declared.refusal.Refusal.{Refusal}
-use Rattle.volume_core.specs.declared.refusal.Refusal.TheVariants.{Refused, Memory}
+use Rattle.volume_core.specs.declared.refusal.Refusal.TheVariants.{Refused, Worn, Keeper, Memory}
+use Rattle.volume_core.specs.declared.row_core.RowCore.{RowCore}
+use Rattle.volume_core.specs.Standing.{StandsFor, IsToldAfter}
 
 -- a check answers Ok where it does not fail, and else its error number
 abbrev pub Checks : {A : Type 0} → Result A Errno → Option ℕ → Type 0
 Checks (Ok x) check = check ≡ None
 Checks (Err errno) check = check ≡ Some errno.0
 
--- Ok: no check of the operation fails, and reply and tree are those of its success. Refused: the first failing check
--- has this number, and the tree is as before. Memory: the tree is as before.
-abbrev pub IsOutcome : Tree → ℕ → Op → ℕ → Result Reply Refusal → Tree → Type 0
-IsOutcome t pass op now (Ok reply) after =
-    (first_failure (checks t pass op) ≡ None) × (reply ≡ success t pass op now) × (after ≡ effect t pass op now)
-IsOutcome t pass op now (Err (Refused errno)) after = (first_failure (checks t pass op) ≡ Some errno.0) × (after ≡ t)
-IsOutcome t pass op now (Err Memory) after = after ≡ t
+-- as before: the same tree, and nothing more is told
+abbrev pub IsStill : {K : Type 0} → (K → Option Told) → RowCore K → RowCore K → Tree → Type 0
+IsStill told before after whole = StandsFor told after whole × (told after.keeper ≡ told before.keeper)
 
--- how a call of an operation that is not built ends: refused with ENOSYS, and the tree is as before
-abbrev pub IsUnbuilt : Tree → Result Reply Refusal → Tree → Type 0
-IsUnbuilt t (Ok reply) after = ⊥
-IsUnbuilt t (Err (Refused errno)) after = (errno.0 ≡ 38) × (after ≡ t)
-IsUnbuilt t (Err Memory) after = ⊥
+-- Ok: no check of the operation fails, no name that is needed is worn, the reply is that of the operation's success, and the core
+-- stands for the tree after it. Refused: the first check that fails has this number. Worn: no check fails, and a name that is needed is worn. After each refusal all
+-- is as before.
+abbrev pub IsOutcome : {K : Type 0} → (K → Option Told) → RowCore K → RowCore K → Tree → ℕ → Op → ℕ → Result Reply Refusal → Type 0
+IsOutcome told before after whole pass op now (Ok reply) =
+    (first_failure (checks whole pass op) ≡ None) × (reply ≡ success whole pass op now) × StandsFor told after (effect whole pass op now)
+    × IsToldAfter (not (keeps_rows op)) (told before.keeper) (told after.keeper) × (IfTold (told before.keeper) (λ t. IsWorn t op) → ⊥)
+IsOutcome told before after whole pass op now (Err (Refused errno)) = (first_failure (checks whole pass op) ≡ Some errno.0) × IsStill told before after whole
+IsOutcome told before after whole pass op now (Err Worn) = (first_failure (checks whole pass op) ≡ None) × IfTold (told before.keeper) (λ t. IsWorn t op) × IsStill told before after whole
+IsOutcome told before after whole pass op now (Err Keeper) = IsStill told before after whole
+IsOutcome told before after whole pass op now (Err Memory) = IsStill told before after whole

@@ -1,13 +1,17 @@
-//! The core of the file system. Now it keeps the plain tree as it is; rows, blocks and a cache come behind the same
-//! contract.
+//! The core of the file system: names, attributes and lengths of files are rows behind a keeper, and open handles and the bytes
+//! of files lie in memory.
 #![tactic(auto)]
 
+mod bytes;
 mod checks;
-mod node;
-mod plain;
+mod data;
+mod files;
+mod laws;
+mod opening;
+mod operations;
 mod refusal;
+mod row_core;
+mod rows;
 
-pub use plain::PlainCore;
-
-#[cfg(test)]
-mod tests;
+pub use laws::made_tables_are_ready;
+pub use row_core::{OpenFault, RowCore};

@@ -1,7 +1,10 @@
 ghost use Rattle.std.specs.Prelude.{◌≡◌};
-ghost use Rattle.volume_core.specs.declared.refusal.Refusal.TheVariants.{Refused, Memory};
+ghost use Rattle.s3_rows.specs.declared.keeper.KeeperFault.{KeeperFault};
+ghost use Rattle.s3_rows.specs.declared.keeper.KeeperFault.TheVariants as faults;
+ghost use Rattle.volume_core.specs.declared.refusal.Refusal.TheVariants.{Refused, Keeper, Memory};
 
 use s3_base::Errno;
+use s3_rows::KeeperFault;
 use std::alloc::{AllocError, AllocFailed};
 
 /// Why an operation was not carried out.
@@ -9,6 +12,10 @@ use std::alloc::{AllocError, AllocFailed};
 pub enum Refusal {
     /// A check of the operation fails.
     Refused(Errno),
+    /// It needs a name whose count or id is at its end.
+    Worn,
+    /// The keeper failed.
+    Keeper,
     /// There is no memory for it.
     Memory,
 }
@@ -29,10 +36,13 @@ impl From<AllocError> for Refusal {
     }
 }
 
-impl<T: Drop> From<AllocFailed<T>> for Refusal {
-    ghost from_gives = { λ _ r. r ≡ Memory };
+impl From<KeeperFault> for Refusal {
+    ghost from_gives = { λ f r. r ≡ (elim f [ faults.Failed ↦ Keeper | faults.Memory ↦ Memory ]) };
 
-    fn from(_error: AllocFailed<T>) -> Self {
-        Refusal::Memory
+    fn from(fault: KeeperFault) -> Self {
+        match fault {
+            KeeperFault::Failed => Refusal::Keeper,
+            KeeperFault::Memory => Refusal::Memory,
+        }
     }
 }

@@ -11,6 +11,6 @@ block_size_of (Some limits) = limits.block_size
 pub returns-in-Some-clause-output : goal.returns-in-Some-clause-output
 unfolding block_size_of
 returns-in-Some-clause-output g c = λ limits s before words told is.
-    let size : c.in-Some.limits.block_size ≡ limits.block_size = ap block_size_of (c.in-Some.ensures ∙ words) in
+    let size : c.in-Some.limits.block_size ≡ limits.block_size = ap block_size_of (c.in-Some.ensures.limits ∙ words) in
     let output = c.replay.ensures.output s before told is in
     (output.0, output.1, subst (λ (n : ℕ). EndsWith n s.left c.replay.result output.0) size output.2)

@@ -1,0 +1,177 @@
+-- A directory has an entry of a name exactly where it has one of the name's id.
+use Rattle.std.proofs.Common.{◌≡◌, ℕ, List, [], ◌∷◌, Bool, true, false, cond, Option, None, Some, refl, sym, ap, ◌∙◌, subst, arith, ltb-true, eqb-true, eq-eqb}
+use Rattle.std.specs.Prelude.{IsTrue, not, ◌&&◌, ◌||◌, ◌==◌, nat_lt, is_some, find, option_map, unwrap_or}
+use Rattle.std.specs.List.{list_all, list_any}
+use Rattle.std.specs.Cmp.{nat_cmp_total, tied_back, tied_itself}
+use Rattle.std.proofs.lemmas.Cmp.{nat_list_cmp_total}
+use Rattle.std.specs.FinMap.{nat_cmp-IsAntisymmetric}
+use Rattle.std.specs.declared.cmp.Ordering.{Ordering}
+use Rattle.std.specs.declared.cmp.Ordering.TheVariants.{Less, Equal, Greater}
+use Rattle.std.specs.Ordering.{nat_cmp, is_eq, ordering_then}
+use Rattle.s3_rows.specs.Rows.{Name, Content}
+use Rattle.s3_rows.specs.Keyed.{has_key}
+use Rattle.s3_rows.specs.Tables.{Tables, by_name, by_entry}
+use Rattle.s3_rows.specs.Selections.{name_at, name_of_bytes, entry_at, bytes_cmp, bytes_of_name}
+use Rattle.s3_rows.specs.Told.{Told, IfTold}
+use Rattle.s3_rows.specs.Validity.{IsValid, HasUniqueNames, have_same_bytes, differ, finds_of_entry, has_inode, is_directory, any_kind}
+use Rattle.s3_rows.proofs.Passing.{first, second}
+use Rattle.s3_rows.proofs.Sorting.{is_equal, any_found, negated}
+use Rattle.s3_rows.proofs.Finding.{found_passes, found_any, any_follows, finds_itself}
+use Rattle.ref_counts.proofs.Named.{has_bytes}
+use Rattle.tree_rows.proofs.Listed.{is_entry}
+use Rattle.dir_ops.specs.Entries.{is_taken}
+
+-- ---- tests
+
+-- two tests that agree on rows that pass a third
+any_same : {R : Type 0} (p q f : R → Bool) → ((x : R) → IsTrue (f x) → p x ≡ q x) → (rows : List R) → IsTrue (list_all f rows) → list_any p rows ≡ list_any q rows
+any_same p q f alike [] all = refl
+any_same p q f alike (x ∷ xs) all =
+    ap (λ b. b || list_any p xs) (alike x (first (f x) (list_all f xs) all)) ∙ ap (λ b. q x || b) (any_same p q f alike xs (second (f x) (list_all f xs) all))
+
+any_none : {R : Type 0} (p f : R → Bool) → ((x : R) → IsTrue (f x) → p x ≡ false) → (rows : List R) → IsTrue (list_all f rows) → list_any p rows ≡ false
+any_none p f none [] all = refl
+any_none p f none (x ∷ xs) all =
+    ap (λ b. b || list_any p xs) (none x (first (f x) (list_all f xs) all)) ∙ any_none p f none xs (second (f x) (list_all f xs) all)
+
+-- two tests that follow from each other
+agree : (a b : Bool) → (IsTrue a → IsTrue b) → (IsTrue b → IsTrue a) → a ≡ b
+agree true b there back = sym (there refl)
+agree false true there back = back refl
+agree false false there back = refl
+
+both_equal : (a b : Ordering) → is_eq (ordering_then a b) ≡ (is_eq a && is_eq b)
+both_equal Less b = refl
+both_equal Equal b = refl
+both_equal Greater b = refl
+
+same_number : (a b : ℕ) → is_eq (nat_cmp a b) ≡ (b == a)
+same_number a b = by_case (nat_lt a b) refl (a == b) refl (b == a) refl
+  where
+    by_case : (c : Bool) → nat_lt a b ≡ c → (d : Bool) → (a == b) ≡ d → (e : Bool) → (b == a) ≡ e → is_eq (cond c Less (cond d Equal Greater)) ≡ e
+    by_case true less d is true back = absurd (omega (arith, ltb-true a b less, eqb-true b a back))
+    by_case true less d is false back = refl
+    by_case false less true is true back = refl
+    by_case false less true is false back =
+        let clash : true ≡ false = sym (eq-eqb b a (sym (eqb-true a b is))) ∙ back in
+        absurd (cc clash)
+    by_case false less false is true back =
+        let clash : true ≡ false = sym (eq-eqb a b (sym (eqb-true b a back))) ∙ is in
+        absurd (cc clash)
+    by_case false less false is false back = refl
+
+-- where no two rows are alike, two that pass a test of like rows are one
+module _ {R : Type 0} (alike : R → R → Bool) (q : R → Bool) (like : (x y : R) → IsTrue (q x) → IsTrue (q y) → IsTrue (alike x y)) where
+  only_one : (p : R → Bool) (rows : List R) (n m : R) → IsTrue (differ alike rows) → find q rows ≡ Some n → find p rows ≡ Some m → IsTrue (q m) → n ≡ m
+  only_one p [] n m unlike here there passes = absurd (cc here)
+  only_one p (x ∷ xs) n m unlike here there passes =
+      by_case (λ a b. only_one p xs n m (second (not (list_any (alike x) xs)) (differ alike xs) unlike) a b passes) (q x) refl here (p x) there
+    where
+      by_case : (find q xs ≡ Some n → find p xs ≡ Some m → n ≡ m) → (b : Bool) → q x ≡ b → cond b (Some x) (find q xs) ≡ Some n → (c : Bool) → cond c (Some x) (find p xs) ≡ Some m → n ≡ m
+      by_case others true own found true other = cc (found, other)
+      by_case others true own found false other =
+          let any : IsTrue (list_any (alike x) xs) = any_follows q (alike x) (λ y. like x y own) xs (found_any p q xs m other passes) in
+          let clash : true ≡ false = sym any ∙ negated (list_any (alike x) xs) (first (not (list_any (alike x) xs)) (differ alike xs) unlike) in
+          absurd (cc clash)
+      by_case others false own found true other =
+          let same : x ≡ m = cc other in
+          let clash : false ≡ true = sym own ∙ ap q same ∙ passes in
+          absurd (cc clash)
+      by_case others false own found false other = others found other
+
+-- ---- names
+
+like : (bytes : List ℕ) (x y : Name) → IsTrue (has_bytes bytes x) → IsTrue (has_bytes bytes y) → IsTrue (have_same_bytes x y)
+like bytes x y one two =
+    ap is_eq (nat_list_cmp_total.congr x.name bytes y.name (is_equal (bytes_cmp x.name bytes) one) ∙ tied_back nat_list_cmp_total y.name bytes (is_equal (bytes_cmp y.name bytes) two))
+
+turned : (a b : List ℕ) → IsTrue (is_eq (bytes_cmp a b)) → IsTrue (is_eq (bytes_cmp b a))
+turned a b same = ap is_eq (tied_back nat_list_cmp_total a b (is_equal (bytes_cmp a b) same))
+
+name_there : (t : Tables) (c : Content) → IsTrue (finds_of_entry t c) → IsTrue (is_some (name_at t c.name_id))
+name_there t c finds = second (has_inode is_directory t c.parent) (is_some (name_at t c.name_id)) (first (has_inode is_directory t c.parent && is_some (name_at t c.name_id)) (has_inode any_kind t c.inode) finds)
+
+-- an entry has a name of given bytes where its name's row does
+named_so : (t : Tables) (bytes : List ℕ) (c : Content) (found : Option Name) → name_at t c.name_id ≡ found → IsTrue (is_some found)
+    → IsTrue (is_eq (bytes_cmp bytes (bytes_of_name t c.name_id))) → (m : Name) × (name_at t c.name_id ≡ Some m) × IsTrue (has_bytes bytes m)
+named_so t bytes c None is there same = absurd (cc there)
+named_so t bytes c (Some m) is there same =
+    let own : bytes_of_name t c.name_id ≡ m.name = ap (λ (row : Option Name). unwrap_or (option_map (λ r. r.name) row) []) is in
+    (m, is, turned bytes m.name (subst (λ xs. IsTrue (is_eq (bytes_cmp bytes xs))) own same))
+
+module _ (t : Tables) (v : IsValid t) (unique : HasUniqueNames t) (bytes : List ℕ) where
+  -- an entry has the id of the name with these bytes where it has the bytes
+  same_name : (n : Name) → name_of_bytes t bytes ≡ Some n → (c : Content) → IsTrue (finds_of_entry t c) → is_eq (nat_cmp n.id c.name_id) ≡ is_eq (bytes_cmp bytes (bytes_of_name t c.name_id))
+  same_name n here c finds = agree (is_eq (nat_cmp n.id c.name_id)) (is_eq (bytes_cmp bytes (bytes_of_name t c.name_id))) there back
+    where
+      there : IsTrue (is_eq (nat_cmp n.id c.name_id)) → IsTrue (is_eq (bytes_cmp bytes (bytes_of_name t c.name_id)))
+      there same =
+          let number : n.id ≡ c.name_id = nat_cmp-IsAntisymmetric n.id c.name_id (is_equal (nat_cmp n.id c.name_id) same) in
+          let row : name_at t c.name_id ≡ Some n = ap (name_at t) (sym number) ∙ finds_itself by_name nat_cmp_total (has_bytes bytes) t.names n v.ordered.names here in
+          let own : bytes_of_name t c.name_id ≡ n.name = ap (λ (found : Option Name). unwrap_or (option_map (λ r. r.name) found) []) row in
+          subst (λ xs. IsTrue (is_eq (bytes_cmp bytes xs))) (sym own) (turned n.name bytes (found_passes (has_bytes bytes) t.names n here))
+
+      back : IsTrue (is_eq (bytes_cmp bytes (bytes_of_name t c.name_id))) → IsTrue (is_eq (nat_cmp n.id c.name_id))
+      back same =
+          let row = named_so t bytes c (name_at t c.name_id) refl (name_there t c finds) same in
+          let one : n ≡ row.0 = only_one have_same_bytes (has_bytes bytes) (like bytes) (has_key by_name c.name_id) t.names n row.0 unique here row.1 row.2 in
+          let number : IsTrue (is_eq (nat_cmp c.name_id (row.0).id)) = found_passes (has_key by_name c.name_id) t.names row.0 row.1 in
+          let equal : c.name_id ≡ n.id = nat_cmp-IsAntisymmetric c.name_id (row.0).id (is_equal (nat_cmp c.name_id (row.0).id) number) ∙ ap (λ (x : Name). x.id) (sym one) in
+          subst (λ x. IsTrue (is_eq (nat_cmp n.id x))) (sym equal) (ap is_eq (tied_itself nat_cmp_total n.id))
+
+  -- where the name has a row
+  pub taken_by_id : (parent id : ℕ) (n : Name) → name_of_bytes t bytes ≡ Some n → id ≡ n.id → is_some (entry_at t parent id) ≡ is_taken t parent bytes
+  taken_by_id parent id n here same =
+      ap (λ x. is_some (entry_at t parent x)) same ∙ sym (any_found (has_key by_entry (parent, n.id)) t.contents)
+      ∙ any_same (has_key by_entry (parent, n.id)) (is_entry t parent bytes) (finds_of_entry t) each t.contents v.rows.entries
+    where
+      each : (c : Content) → IsTrue (finds_of_entry t c) → has_key by_entry (parent, n.id) c ≡ is_entry t parent bytes c
+      each c finds =
+          both_equal (nat_cmp parent c.parent) (nat_cmp n.id c.name_id) ∙ ap (λ b. b && is_eq (nat_cmp n.id c.name_id)) (same_number parent c.parent)
+          ∙ ap (λ b. (c.parent == parent) && b) (same_name n here c finds)
+
+  -- where it has none
+  pub not_taken : (parent : ℕ) → name_of_bytes t bytes ≡ None → false ≡ is_taken t parent bytes
+  not_taken parent none = sym (any_none (is_entry t parent bytes) (finds_of_entry t) each t.contents v.rows.entries)
+    where
+      and_false : (b : Bool) → (b && false) ≡ false
+      and_false true = refl
+      and_false false = refl
+
+      each : (c : Content) → IsTrue (finds_of_entry t c) → is_entry t parent bytes c ≡ false
+      each c finds = ap (λ b. (c.parent == parent) && b) (by_case (is_eq (bytes_cmp bytes (bytes_of_name t c.name_id))) refl) ∙ and_false (c.parent == parent)
+        where
+          by_case : (b : Bool) → is_eq (bytes_cmp bytes (bytes_of_name t c.name_id)) ≡ b → b ≡ false
+          by_case true same =
+              let row = named_so t bytes c (name_at t c.name_id) refl (name_there t c finds) same in
+              let any : IsTrue (list_any (has_bytes bytes) t.names) = found_any (has_key by_name c.name_id) (has_bytes bytes) t.names row.0 row.1 row.2 in
+              let clash : true ≡ false = sym any ∙ any_found (has_bytes bytes) t.names ∙ ap is_some none in
+              absurd (cc clash)
+          by_case false same = refl
+
+-- ---- over a keeper that may tell
+
+-- the answer of a look-up by the id that a look-up by the name gave
+taken_of : (t : Tables) (bytes : List ℕ) (parent id : ℕ) (row : Option Content) (found : Option Name) → IsValid t → HasUniqueNames t → name_of_bytes t bytes ≡ found → Some id ≡ option_map (λ n. n.id) found
+    → row ≡ entry_at t parent id → is_some row ≡ is_taken t parent bytes
+taken_of t bytes parent id row None v unique found is own = absurd (cc is)
+taken_of t bytes parent id row (Some n) v unique found is own =
+    let same : id ≡ n.id = cc is in
+    ap is_some own ∙ taken_by_id t v unique bytes parent id n found same
+
+nothing_of : {X Y : Type 0} (f : X → Y) (found : Option X) → None ≡ option_map f found → found ≡ None
+nothing_of f None is = refl
+nothing_of f (Some x) is = absurd (cc is)
+
+pub found_taken : (told after : Option Told) (bytes : List ℕ) (parent id : ℕ) (row : Option Content) (answer : Option ℕ) (b : Bool) → b ≡ is_some row → answer ≡ Some id → IfTold told IsValid
+    → IfTold told HasUniqueNames → after ≡ told → IfTold told (λ t. answer ≡ option_map (λ n. n.id) (name_of_bytes t bytes)) → IfTold after (λ t. row ≡ entry_at t parent id)
+    → IfTold told (λ t. b ≡ is_taken t parent bytes)
+found_taken None after bytes parent id row answer b is_b given v unique same is own = tt
+found_taken (Some s) after bytes parent id row answer b is_b given v unique same is own =
+    is_b ∙ taken_of s.tables bytes parent id row (name_of_bytes s.tables bytes) v unique refl (sym given ∙ is) (subst (λ x. IfTold x (λ t. row ≡ entry_at t parent id)) same own)
+
+pub found_free : (told : Option Told) (bytes : List ℕ) (parent : ℕ) (answer : Option ℕ) → answer ≡ None → IfTold told IsValid → IfTold told HasUniqueNames
+    → IfTold told (λ t. answer ≡ option_map (λ n. n.id) (name_of_bytes t bytes)) → IfTold told (λ t. false ≡ is_taken t parent bytes)
+found_free None bytes parent answer given v unique is = tt
+found_free (Some s) bytes parent answer given v unique is =
+    not_taken s.tables v unique bytes parent (nothing_of (λ (n : Name). n.id) (name_of_bytes s.tables bytes) (sym given ∙ is))

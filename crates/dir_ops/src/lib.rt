@@ -1,0 +1,9 @@
+//! Plans of the operations on entries of directories.
+#![tactic(auto)]
+
+mod checks;
+mod create;
+mod entries;
+mod plans;
+
+pub use plans::plan;

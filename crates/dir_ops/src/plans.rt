@@ -1,0 +1,60 @@
+//! The plan of an operation.
+ghost use Rattle.std.specs.Prelude.{◌≡◌, ◌<◌, ◌^◌, ℕ, IsTrue, IfOk};
+ghost use Rattle.s3_base.specs.Faults.{HasCause};
+ghost use Rattle.op_frames.specs.Operations.{is_op};
+ghost use Rattle.plain_tree.specs.Tree.{Tree};
+ghost use Rattle.s3_rows.specs.Tables.{Tables};
+ghost use Rattle.s3_rows.specs.Told.{IfTold, has_failed};
+ghost use Rattle.s3_rows.specs.Validity.{IsValid, HasUniqueNames};
+ghost use Rattle.tree_rows.specs.Shapes.{Represents};
+ghost use Rattle.ref_counts.specs.Handles.{HasHandles};
+ghost use Rattle.ref_counts.specs.Plans.{IsPlanOf, HasFitReply};
+ghost use Rattle.dir_ops.specs.Plans.{is_planned};
+
+use crate::create::{NewFile, plan_create};
+use op_frames::Op;
+use ref_counts::{Handles, Plan};
+use s3_rows::{Keeper, KeeperFault};
+use std::alloc::Global;
+
+/// The plan of an operation of a pass on entries of directories, at a time: now Create alone. It commits nothing.
+pub fn plan<K: Keeper>(
+    alloc: Global,
+    keeper: &mut K,
+    handles: &Handles,
+    pass: u64,
+    op: &Op,
+    now: u64,
+) -> Result<Plan, KeeperFault>
+    requires planned { IsTrue (is_planned op.now) }
+    requires now { now < 2 ^ 62 }
+    requires valid { IfTold (K.told keeper.old) IsValid }
+    requires unique { IfTold (K.told keeper.old) HasUniqueNames }
+    ensures plan { IfOk result (λ p. IfTold (K.told keeper.old) (λ t. (whole : Tree) → Represents t whole → HasHandles handles.now whole → IsPlanOf t whole pass op.now now p)) }
+    ensures same { K.told keeper.new ≡ K.told keeper.old }
+    ensures cause { HasCause (K.faults keeper.old) (K.faults keeper.new) (has_failed result) }
+    ensures fit { IfOk result HasFitReply }
+{
+    match op {
+        Op::Create {
+            parent,
+            name,
+            mode,
+            uid,
+            gid,
+        } => plan_create(
+            alloc,
+            keeper,
+            handles,
+            *parent,
+            name,
+            &NewFile {
+                mode: *mode,
+                uid: *uid,
+                gid: *gid,
+                now,
+            },
+        ),
+        _ => unreachable!(),
+    }
+}

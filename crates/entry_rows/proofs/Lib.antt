@@ -1,0 +1,13 @@
+pub mod Added
+pub mod AddedTree
+pub mod Allowed
+pub mod CreatedShape
+pub mod CreatedStep
+pub mod CreatedValid
+pub mod Entering
+pub mod Inserted
+pub mod NameUsed
+pub mod Putting
+pub mod Raising
+pub mod Stepping
+pub mod Unused

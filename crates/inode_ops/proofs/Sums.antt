@@ -1,0 +1,267 @@
+-- How many nodes, entries and bytes of regular files the tree of valid tables has.
+use Rattle.std.proofs.Common.{◌≡◌, ℕ, ◌+◌, List, [], ◌∷◌, length, Bool, true, false, cond, Option, None, Some, refl, sym, ap, ◌∙◌, subst, arith, ltb-true, eqb-true, eq-eqb}
+use Rattle.std.specs.Prelude.{IsTrue, not, ◌&&◌, ◌||◌, ◌==◌, nat_lt, is_some, count_by, sum_by, filter, map, option_map, unwrap_or}
+use Rattle.std.specs.List.{list_all, list_any, filter_map, AllByRecursion}
+use Rattle.std.proofs.lemmas.List.{length-map}
+use Rattle.std.proofs.lemmas.List.Sums.{sum_by-cons}
+use Rattle.std.proofs.lemmas.Cmp.{nat_list_cmp_total}
+use Rattle.std.specs.Cmp.{nat_cmp_total}
+use Rattle.std.specs.declared.cmp.Ordering.TheVariants.{Less, Equal, Greater}
+use Rattle.std.specs.Ordering.{nat_cmp, is_eq}
+use Rattle.s3_base.specs.declared.node_kind.Kind.{Kind}
+use Rattle.s3_base.specs.declared.node_kind.Kind.TheVariants as kinds
+use Rattle.op_frames.specs.declared.operation.Op.TheVariants as ops
+use Rattle.op_frames.specs.declared.reply.Reply.TheVariants as replies
+use Rattle.plain_tree.specs.Tree as tree
+use Rattle.plain_tree.specs.Tree.{Node, Tree}
+use Rattle.plain_tree.specs.Attributes.{at_most_u64, entries_in, bytes_in, entry_count, byte_count}
+use Rattle.s3_rows.specs.declared.lists.NamedEntry.{NamedEntry}
+use Rattle.s3_rows.specs.declared.table_rows.Row.TheVariants as rows
+use Rattle.s3_rows.specs.declared.table_rows.TableName.TheVariants as tables
+use Rattle.s3_rows.specs.Rows.{Inode, Name, Content}
+use Rattle.s3_rows.specs.Keyed.{has_key, rises, sorted_by}
+use Rattle.s3_rows.specs.Tables.{Tables, by_inode}
+use Rattle.s3_rows.specs.Selections.{inode_at, name_at, bytes_cmp, bytes_of_name, with_entry_name, named_entries, by_entry_name, rows_of}
+use Rattle.s3_rows.specs.Validity.{IsValid, finds_of_entry, has_inode, is_directory, is_regular, any_kind, have_one_name, differ}
+use Rattle.s3_rows.proofs.Passing.{both, first, second, all_pass}
+use Rattle.s3_rows.proofs.Sorting.{negated, count-sorted}
+use Rattle.tree_rows.specs.Shapes as shapes
+use Rattle.tree_rows.specs.Shapes.{ContentShape, NodeShape, TreeShape, shape_of_content, shape_of_node, node_of_row, Represents}
+use Rattle.tree_rows.proofs.Counting.{sum_by-map, sum_same, sum_swap, count_none, self_found, one_found}
+use Rattle.tree_rows.proofs.Listed.{named, is_in}
+use Rattle.tree_rows.proofs.Whole.{content_of_kind}
+use Rattle.ref_counts.specs.declared.plan.Plan.TheVariants as plans
+use Rattle.ref_counts.specs.Plans.{IsPlanOf}
+use Rattle.inode_ops.specs.declared.statfs.Tally.{Tally}
+use Rattle.inode_ops.specs.Tallies.{IsCounted, bytes_of_row}
+use Rattle.inode_ops.proofs.Planned.{idle}
+
+-- ---- over shapes
+
+abbrev entries_in_shape : ContentShape → ℕ
+entries_in_shape (shapes.Directory entries) = length entries
+entries_in_shape (shapes.Regular size) = 0
+entries_in_shape (shapes.Link target) = 0
+
+abbrev bytes_in_shape : ContentShape → ℕ
+bytes_in_shape (shapes.Directory entries) = 0
+bytes_in_shape (shapes.Regular size) = size
+bytes_in_shape (shapes.Link target) = 0
+
+entries_alike : (content : tree.Content) → entries_in content ≡ entries_in_shape (shape_of_content content)
+entries_alike (tree.Regular bytes) = refl
+entries_alike (tree.Directory entries) = refl
+entries_alike (tree.Link target) = refl
+
+bytes_alike : (content : tree.Content) → bytes_in content ≡ bytes_in_shape (shape_of_content content)
+bytes_alike (tree.Regular bytes) = refl
+bytes_alike (tree.Directory entries) = refl
+bytes_alike (tree.Link target) = refl
+
+-- a sum over nodes is one over rows
+module _ (t : Tables) (whole : Tree) (same : Represents t whole) where
+  over_rows : (f : tree.Content → ℕ) (g : ContentShape → ℕ) → ((content : tree.Content) → f content ≡ g (shape_of_content content))
+      → sum_by (λ (e : ℕ × Node). f e.1.content) whole.nodes ≡ sum_by (λ (r : Inode). g (node_of_row t r).content) t.inodes
+  over_rows f g alike =
+      let of_shape : ℕ × NodeShape → ℕ = λ e. g e.1.content in
+      let made : Inode → ℕ × NodeShape = λ r. (r.id, node_of_row t r) in
+      let shaped : ℕ × Node → ℕ × NodeShape = λ e. (e.0, shape_of_node e.1) in
+      let of_node : ℕ × Node → ℕ = λ e. f e.1.content in
+      let of_content : ℕ × Node → ℕ = λ e. g (shape_of_content e.1.content) in
+      let each : of_node ≡ of_content = λ i e. alike e.1.content i in
+      ap (λ (h : ℕ × Node → ℕ). sum_by h whole.nodes) each ∙ sym (sum_by-map of_shape shaped whole.nodes) ∙ ap (λ (s : TreeShape). sum_by of_shape s.nodes) (sym same) ∙ sum_by-map of_shape made t.inodes
+
+  -- ---- nodes
+
+  pub nodes_are : length whole.nodes ≡ length (rows_of t tables.Inodes)
+  nodes_are =
+      let made : Inode → ℕ × NodeShape = λ r. (r.id, node_of_row t r) in
+      let shaped : ℕ × Node → ℕ × NodeShape = λ e. (e.0, shape_of_node e.1) in
+      sym (length-map whole.nodes shaped) ∙ ap (λ (s : TreeShape). length s.nodes) (sym same) ∙ length-map t.inodes made ∙ sym (length-map t.inodes rows.Inode)
+
+  -- ---- bytes
+
+  pub bytes_are : byte_count whole ≡ sum_by bytes_of_row (rows_of t tables.Inodes)
+  bytes_are =
+      let by_shape : Inode → ℕ = λ r. bytes_in_shape (node_of_row t r).content in
+      let by_row : Inode → ℕ = λ r. bytes_of_row (rows.Inode r) in
+      let each : by_shape ≡ by_row = λ i r. bytes_of_kind r r.kind i in
+      over_rows bytes_in bytes_in_shape bytes_alike ∙ ap (λ (h : Inode → ℕ). sum_by h t.inodes) each ∙ sym (sum_by-map bytes_of_row rows.Inode t.inodes)
+    where
+      bytes_of_kind : (r : Inode) (kind : Kind) → bytes_in_shape (content_of_kind t r kind) ≡ cond (is_regular kind) r.size 0
+      bytes_of_kind r kinds.Directory = refl
+      bytes_of_kind r kinds.Regular = refl
+      bytes_of_kind r kinds.Link = refl
+
+-- ---- entries
+
+abbrev always : {X : Type 0} → X → Bool
+always x = true
+
+count_always : {X : Type 0} (xs : List X) → count_by always xs ≡ length xs
+count_always [] = refl
+count_always {X} (x ∷ xs) =
+    let one : X → ℕ = λ y. 1 in
+    omega (arith, sum_by-cons one x xs, count_always xs)
+
+with_name : (c : Content) (found : Option Name) → IsTrue (is_some found)
+    → option_map (λ (n : Name). let e : NamedEntry = record { row = c; name = n.name } in e) found ≡ Some (record { row = c; name = unwrap_or (option_map (λ r. r.name) found) [] })
+with_name c None there = absurd (cc there)
+with_name c (Some n) there = refl
+
+name_there : (t : Tables) (c : Content) → IsTrue (finds_of_entry t c) → IsTrue (is_some (name_at t c.name_id))
+name_there t c finds = second (has_inode is_directory t c.parent) (is_some (name_at t c.name_id)) (first (has_inode is_directory t c.parent && is_some (name_at t c.name_id)) (has_inode any_kind t c.inode) finds)
+
+-- the rows that a directory is listed with are its rows with their names
+listed : (t : Tables) (parent : ℕ) (cs : List Content) → IsTrue (list_all (finds_of_entry t) cs) → filter_map (with_entry_name t) (filter (is_in parent) cs) ≡ map (named t) (filter (is_in parent) cs)
+listed t parent [] finds = refl
+listed t parent (c ∷ cs) finds =
+    by_case (listed t parent cs (second (finds_of_entry t c) (list_all (finds_of_entry t) cs) finds)) (with_name c (name_at t c.name_id) (name_there t c (first (finds_of_entry t c) (list_all (finds_of_entry t) cs) finds))) (is_in parent c)
+  where
+    by_case : filter_map (with_entry_name t) (filter (is_in parent) cs) ≡ map (named t) (filter (is_in parent) cs) → with_entry_name t c ≡ Some (named t c) → (b : Bool)
+        → filter_map (with_entry_name t) (cond b (c ∷ filter (is_in parent) cs) (filter (is_in parent) cs)) ≡ map (named t) (cond b (c ∷ filter (is_in parent) cs) (filter (is_in parent) cs))
+    by_case others own true = rw (own, filter_map) (ap (λ es. named t c ∷ es) others)
+    by_case others own false = others
+
+-- none of a directory's rows is like a row that no other is like
+none_alike : (t : Tables) (parent : ℕ) (c : Content) (cs : List Content) → c.parent ≡ parent → list_any (have_one_name t c) cs ≡ false
+    → list_any (has_key by_entry_name (bytes_of_name t c.name_id)) (map (named t) (filter (is_in parent) cs)) ≡ false
+none_alike t parent c [] here none = refl
+none_alike t parent c (x ∷ xs) here none = by_case (none_alike t parent c xs here) (is_in parent x) refl none
+  where
+    text : List ℕ
+    text = bytes_of_name t c.name_id
+
+    by_case : (list_any (have_one_name t c) xs ≡ false → list_any (has_key by_entry_name text) (map (named t) (filter (is_in parent) xs)) ≡ false) → (b : Bool) → is_in parent x ≡ b → list_any (have_one_name t c) (x ∷ xs) ≡ false
+        → list_any (has_key by_entry_name text) (map (named t) (cond b (x ∷ filter (is_in parent) xs) (filter (is_in parent) xs))) ≡ false
+    by_case others true is all = own (is_eq (bytes_cmp text (bytes_of_name t x.name_id))) (list_any (have_one_name t c) xs) refl (ap (λ b. (b && is_eq (bytes_cmp text (bytes_of_name t x.name_id))) || list_any (have_one_name t c) xs) (sym (eq-eqb c.parent x.parent (here ∙ sym (eqb-true x.parent parent is)))) ∙ all)
+      where
+        own : (d e : Bool) → list_any (have_one_name t c) xs ≡ e → ((true && d) || e) ≡ false → (d || list_any (has_key by_entry_name text) (map (named t) (filter (is_in parent) xs))) ≡ false
+        own true e rest clash = absurd (cc clash)
+        own false e rest clash = others (rest ∙ clash)
+    by_case others false is all = others (rest (have_one_name t c x) (list_any (have_one_name t c) xs) all)
+      where
+        rest : (d e : Bool) → (d || e) ≡ false → e ≡ false
+        rest true e clash = absurd (cc clash)
+        rest false e same = same
+
+-- no two of them have one name
+unlike_listed : (t : Tables) (parent : ℕ) (cs : List Content) → IsTrue (differ (have_one_name t) cs) → IsTrue (differ (λ a. has_key by_entry_name (by_entry_name.key a)) (map (named t) (filter (is_in parent) cs)))
+unlike_listed t parent [] unlike = refl
+unlike_listed t parent (c ∷ cs) unlike = by_case (unlike_listed t parent cs (second (not (list_any (have_one_name t c) cs)) (differ (have_one_name t) cs) unlike)) (is_in parent c) refl
+  where
+    own : list_any (have_one_name t c) cs ≡ false
+    own = negated (list_any (have_one_name t c) cs) (first (not (list_any (have_one_name t c) cs)) (differ (have_one_name t) cs) unlike)
+
+    by_case : IsTrue (differ (λ a. has_key by_entry_name (by_entry_name.key a)) (map (named t) (filter (is_in parent) cs))) → (b : Bool) → is_in parent c ≡ b
+        → IsTrue (differ (λ a. has_key by_entry_name (by_entry_name.key a)) (map (named t) (cond b (c ∷ filter (is_in parent) cs) (filter (is_in parent) cs))))
+    by_case others true is =
+        both (not (list_any (has_key by_entry_name (bytes_of_name t c.name_id)) (map (named t) (filter (is_in parent) cs)))) (differ (λ a. has_key by_entry_name (by_entry_name.key a)) (map (named t) (filter (is_in parent) cs)))
+        (ap not (none_alike t parent c cs (eqb-true c.parent parent is) own)) others
+    by_case others false is = others
+
+-- how many of the rows are a directory's
+in_directory : (parent : ℕ) (cs : List Content) → length (filter (is_in parent) cs) ≡ count_by (is_in parent) cs
+in_directory parent [] = refl
+in_directory parent (c ∷ cs) =
+    let one : Content → ℕ = λ x. cond (is_in parent x) 1 0 in
+    by_case (in_directory parent cs) (is_in parent c) ∙ sym (sum_by-cons one c cs)
+  where
+    by_case : length (filter (is_in parent) cs) ≡ count_by (is_in parent) cs → (b : Bool) → length (cond b (c ∷ filter (is_in parent) cs) (filter (is_in parent) cs)) ≡ cond b 1 0 + count_by (is_in parent) cs
+    by_case others true = omega (arith, others)
+    by_case others false = omega (arith, others)
+
+-- two tests of equal numbers
+same_test : (a b : ℕ) → is_eq (nat_cmp a b) ≡ (a == b)
+same_test a b = by_case (nat_lt a b) refl (a == b) refl
+  where
+    by_case : (c : Bool) → nat_lt a b ≡ c → (d : Bool) → (a == b) ≡ d → is_eq (cond c Less (cond d Equal Greater)) ≡ d
+    by_case true less true equal = absurd (omega (arith, ltb-true a b less, eqb-true a b equal))
+    by_case true less false equal = refl
+    by_case false less true equal = refl
+    by_case false less false equal = refl
+
+module _ (t : Tables) (finds : IsTrue (list_all (finds_of_entry t) t.contents)) (unlike : IsTrue (differ (have_one_name t) t.contents)) (rise : IsTrue (rises by_inode t.inodes)) where
+  -- a directory is listed with as many entries as it has rows
+  entries_listed : (parent : ℕ) → length (shapes.entries_in t parent) ≡ count_by (is_in parent) t.contents
+  entries_listed parent =
+      let pair_of : NamedEntry → List ℕ × ℕ = λ e. (e.name, e.row.inode) in
+      let found : List NamedEntry = map (named t) (filter (is_in parent) t.contents) in
+      let any : NamedEntry → Bool = λ e. true in
+      length-map (named_entries t parent) pair_of ∙ ap (λ es. length (sorted_by by_entry_name es)) (listed t parent t.contents finds)
+      ∙ sym (count_always (sorted_by by_entry_name found)) ∙ count-sorted by_entry_name nat_list_cmp_total any found (unlike_listed t parent t.contents unlike) ∙ count_always found
+      ∙ length-map (filter (is_in parent) t.contents) (named t) ∙ in_directory parent t.contents
+
+  -- the parent of a row is a directory
+  folder_of : (c : Content) → IsTrue (finds_of_entry t c) → IsTrue (has_inode is_directory t c.parent)
+  folder_of c found = first (has_inode is_directory t c.parent) _ (first _ (has_inode any_kind t c.inode) found)
+
+  no_parent : (r : Inode) → inode_at t r.id ≡ Some r → IsTrue (not (is_directory r.kind)) → (c : Content) → IsTrue (finds_of_entry t c) → IsTrue (not (is_in r.id c))
+  no_parent r there other c found = by_case (c.parent == r.id) refl
+    where
+      by_case : (b : Bool) → (c.parent == r.id) ≡ b → IsTrue (not b)
+      by_case false is = refl
+      by_case true is =
+          let here : IsTrue (has_inode is_directory t r.id) = subst (λ p. IsTrue (has_inode is_directory t p)) (eqb-true c.parent r.id is) (folder_of c found) in
+          let own : IsTrue (is_directory r.kind) = subst (λ (row : Option Inode). IsTrue (elim row [ Some x ↦ is_directory x.kind | None ↦ false ])) there here in
+          let clash : false ≡ true = sym (negated (is_directory r.kind) other) ∙ own in
+          absurd (cc clash)
+
+  of_row : (r : Inode) → inode_at t r.id ≡ Some r → entries_in_shape (node_of_row t r).content ≡ count_by (is_in r.id) t.contents
+  of_row r there = by_kind r.kind refl
+    where
+      none : IsTrue (not (is_directory r.kind)) → 0 ≡ count_by (is_in r.id) t.contents
+      none other = sym (count_none (is_in r.id) t.contents (all_pass (finds_of_entry t) (λ c. not (is_in r.id c)) (no_parent r there other) t.contents finds))
+
+      by_kind : (kind : Kind) → r.kind ≡ kind → entries_in_shape (content_of_kind t r kind) ≡ count_by (is_in r.id) t.contents
+      by_kind kinds.Directory is = entries_listed r.id
+      by_kind kinds.Regular is = none (ap (λ k. not (is_directory k)) is)
+      by_kind kinds.Link is = none (ap (λ k. not (is_directory k)) is)
+
+  each_row : (rows : List Inode) → AllByRecursion (λ r. inode_at t r.id ≡ Some r) rows → AllByRecursion (λ r. entries_in_shape (node_of_row t r).content ≡ count_by (is_in r.id) t.contents) rows
+  each_row [] there = tt
+  each_row (r ∷ rs) there = (of_row r there.0, each_row rs there.1)
+
+  -- an entry counts once among all directories
+  once : (c : Content) → IsTrue (finds_of_entry t c) → sum_by (λ (r : Inode). cond (is_in r.id c) 1 0) t.inodes ≡ 1
+  once c found =
+      let below : Inode → Bool = λ r. c.parent == r.id in
+      let has : Inode → Bool = λ r. is_eq (nat_cmp c.parent r.id) in
+      let alike : below ≡ has = λ i r. sym (same_test c.parent r.id) i in
+      ap (λ (p : Inode → Bool). count_by p t.inodes) alike ∙ one_found by_inode nat_cmp_total c.parent t.inodes rise (parent_there (inode_at t c.parent) (folder_of c found))
+    where
+      parent_there : (row : Option Inode) → IsTrue (elim row [ Some r ↦ is_directory r.kind | None ↦ false ]) → IsTrue (is_some row)
+      parent_there None is = absurd (cc is)
+      parent_there (Some r) is = refl
+
+  each_entry : (cs : List Content) → IsTrue (list_all (finds_of_entry t) cs) → AllByRecursion (λ c. sum_by (λ (r : Inode). cond (is_in r.id c) 1 0) t.inodes ≡ 1) cs
+  each_entry [] found = tt
+  each_entry (c ∷ cs) found = (once c (first (finds_of_entry t c) (list_all (finds_of_entry t) cs) found), each_entry cs (second (finds_of_entry t c) (list_all (finds_of_entry t) cs) found))
+
+  entries_are_rows : (whole : Tree) → Represents t whole → entry_count whole ≡ length t.contents
+  entries_are_rows whole same =
+      let by_shape : Inode → ℕ = λ r. entries_in_shape (node_of_row t r).content in
+      let counted : Inode → ℕ = λ r. count_by (is_in r.id) t.contents in
+      let one : Inode → Content → ℕ = λ r c. cond (is_in r.id c) 1 0 in
+      let in_all : Content → ℕ = λ c. sum_by (λ (r : Inode). cond (is_in r.id c) 1 0) t.inodes in
+      let own : Content → ℕ = λ c. 1 in
+      over_rows t whole same entries_in entries_in_shape entries_alike
+      ∙ sum_same by_shape counted t.inodes (each_row t.inodes (self_found by_inode nat_cmp_total t.inodes rise))
+      ∙ sum_swap one t.inodes t.contents
+      ∙ sum_same in_all own t.contents (each_entry t.contents finds)
+      ∙ count_always t.contents
+
+pub entries_are : (t : Tables) (whole : Tree) → IsValid t → Represents t whole → entry_count whole ≡ length (rows_of t tables.Contents)
+entries_are t whole v same = entries_are_rows t v.rows.entries v.tree.unlike v.ordered.inodes whole same ∙ sym (length-map t.contents rows.Content)
+
+-- ---- statfs
+
+pub stat_planned : (t : Tables) (whole : Tree) (pass now block_size : ℕ) (inodes entries : Tally) → IsValid t → Represents t whole → block_size ≡ unwrap_or (option_map (λ p. p.block_size) t.params) 0
+    → IsCounted (rows_of t tables.Inodes) inodes → IsCounted (rows_of t tables.Contents) entries
+    → IsPlanOf t whole pass ops.Statfs now (plans.Commit [] (replies.Stat block_size inodes.rows entries.rows inodes.bytes) [])
+stat_planned t whole pass now block_size inodes entries v same size of_inodes of_entries =
+    let sizes : block_size ≡ whole.block_size = size ∙ ap (λ (s : TreeShape). s.block_size) same in
+    let nodes : inodes.rows ≡ at_most_u64 (length whole.nodes) = of_inodes.0 ∙ ap at_most_u64 (sym (nodes_are t whole same)) in
+    let names : entries.rows ≡ at_most_u64 (entry_count whole) = of_entries.0 ∙ ap at_most_u64 (sym (entries_are t whole v same)) in
+    let bytes : inodes.bytes ≡ at_most_u64 (byte_count whole) = of_inodes.1 ∙ ap at_most_u64 (sym (bytes_are t whole same)) in
+    (refl, λ i. replies.Stat (sizes i) (nodes i) (names i) (bytes i), idle t whole v same, refl, refl, λ worn. worn)

@@ -1,0 +1,8 @@
+use Rattle.std.proofs.Common.{arith}
+use Rattle.std.proofs.lemmas.Bool.Decides.{nat_tests}
+use Rattle.op_frames.specs.Operations.{u64_field}
+use Rattle.row_tests.proofs.asks.utimes.Goals as goal
+
+pub returns : goal.returns
+unfolding u64_field
+returns c = grind (arith, nat_tests, c.ranges.inode, c.ranges.mtime)

@@ -1,0 +1,189 @@
+-- Handles and bytes after operations that change no bytes.
+use Rattle.std.proofs.Common.{◌≡◌, ◌≢◌, ℕ, ◌+◌, ◌≤◌, List, [], ◌∷◌, ◌++◌, Bool, true, false, cond, Option, None, Some, refl, sym, ap, ◌∙◌, subst, arith}
+use Rattle.std.specs.Prelude.{IsTrue, ◌==◌, length, not, filter, option_map, option_and_then}
+use Rattle.std.specs.Map.{remove_entry}
+use Rattle.std.specs.Ordering.{nat_cmp}
+use Rattle.std.specs.BTreeMap.{insert_entry, is_at}
+use Rattle.std.proofs.lemmas.Bool.{eqb-true, eq-eqb}
+use Rattle.std.proofs.lemmas.Bool.Decides.{nat_tests}
+use Rattle.op_frames.specs.declared.operation.Op.{Op}
+use Rattle.op_frames.specs.declared.operation.Op.TheVariants as ops
+use Rattle.op_frames.specs.Operations.{is_op, data_field, data_length_field}
+use Rattle.op_frames.specs.declared.reply.Reply.{Reply}
+use Rattle.op_frames.specs.declared.reply.Reply.TheVariants as replies
+use Rattle.plain_tree.specs.Tree as tree
+use Rattle.plain_tree.specs.Tree.{Content, Node, Tree, node_at, handle_of, change_node, with_node, with_handle, without_handle, named, touched, stamped}
+use Rattle.plain_tree.specs.Attributes.{attr_of}
+use Rattle.plain_tree.specs.Checks.{first_failure, node_check, file_check, hand_check, open_check}
+use Rattle.plain_tree.specs.Files.{bytes_of, file_at, open_file}
+use Rattle.plain_tree.specs.Operations.{checks, effect, success, new_file, make_checks}
+use Rattle.s3_rows.specs.Rows.{Inode}
+use Rattle.s3_rows.specs.Tables.{Tables}
+use Rattle.s3_rows.specs.Selections.{inode_at}
+use Rattle.s3_rows.specs.Validity.{IsValid}
+use Rattle.tree_rows.specs.Shapes.{Represents}
+use Rattle.tree_laws.proofs.Lookups.{numbers_tell, inserted_here, inserted_there}
+use Rattle.dir_ops.specs.Plans as dir_plans
+use Rattle.inode_ops.proofs.Opened.{released_is, left_is}
+use Rattle.ref_counts.specs.Handles.{OpenHandles, HasHandles, opened, closed, closed_all}
+use Rattle.ref_counts.specs.Plans.{AreNamed}
+use Rattle.volume_core.specs.Files.{Files, bytes_at, HasBytes}
+use Rattle.volume_core.specs.Plans.{keeps_handles, inode_opened, handles_after}
+use Rattle.volume_core.proofs.Changed.{node_changed, next_kept, next_handle_kept, handles_kept, same_bytes}
+use Rattle.volume_core.proofs.Looking.{node_absent}
+
+-- ---- changes of a node that leave its bytes
+
+module _ (f : Node → Node) (keeps : (node : Node) → bytes_of (f node).content ≡ bytes_of node.content) (inode : ℕ) (whole : Tree) where
+  of_found : (found : Option Node) → option_and_then (λ (node : Node). bytes_of node.content) (option_map f found) ≡ option_and_then (λ (node : Node). bytes_of node.content) found
+  of_found None = refl
+  of_found (Some node) = keeps node
+
+  by_test : (d : Bool) (found : Option Node) → option_and_then (λ (node : Node). bytes_of node.content) (cond d (option_map f found) found) ≡ option_and_then (λ (node : Node). bytes_of node.content) found
+  by_test true found = of_found found
+  by_test false found = refl
+
+  pub file_same : (x : ℕ) → file_at (change_node inode f whole) x ≡ file_at whole x
+  file_same x = ap (option_and_then (λ (node : Node). bytes_of node.content)) (node_changed f inode whole x) ∙ by_test (x == inode) (node_at whole x)
+
+  pub bytes_kept : (files : Files) → HasBytes files whole → HasBytes files (change_node inode f whole)
+  bytes_kept files has = same_bytes files whole (change_node inode f whole) has (subst (λ n. whole.next_inode ≤ n) (sym (next_kept f inode whole)) (omega arith)) (λ x b is. sym (file_same x) ∙ is)
+
+  pub own_handles : (h : OpenHandles) → HasHandles h whole → HasHandles h (change_node inode f whole)
+  own_handles h has = (next_handle_kept f inode whole ∙ has.0, handles_kept f inode whole ∙ has.1)
+
+-- ---- operations that keep all handles
+
+pub kept_effect : (h : OpenHandles) (files : Files) (whole : Tree) (pass : ℕ) (op : Op) (now : ℕ) → IsTrue (keeps_handles op) → HasHandles h whole → HasBytes files whole
+    → HasHandles h (effect whole pass op now) × HasBytes files (effect whole pass op now)
+kept_effect h files whole pass (ops.Getattr inode) now is has bytes = (has, bytes)
+kept_effect h files whole pass (ops.Chmod inode mode) now is has bytes =
+    let f : Node → Node = λ node. stamped now (record node { mode = mode }) in
+    (own_handles f (λ node. refl) inode whole h has, bytes_kept f (λ node. refl) inode whole files bytes)
+kept_effect h files whole pass (ops.Chown inode uid gid) now is has bytes =
+    let f : Node → Node = λ node. stamped now (record node { uid = uid; gid = gid }) in
+    (own_handles f (λ node. refl) inode whole h has, bytes_kept f (λ node. refl) inode whole files bytes)
+kept_effect h files whole pass (ops.Utimes inode mtime) now is has bytes =
+    let f : Node → Node = λ node. stamped now (record node { mtime = mtime }) in
+    (own_handles f (λ node. refl) inode whole h has, bytes_kept f (λ node. refl) inode whole files bytes)
+kept_effect h files whole pass ops.Statfs now is has bytes = (has, bytes)
+kept_effect h files whole pass _ now is has bytes = absurd (cc is)
+
+-- ---- a new file
+
+named_bytes : (name : List ℕ) (inode : ℕ) (content : Content) → bytes_of (named name inode content) ≡ bytes_of content
+named_bytes name inode (tree.Regular bytes) = refl
+named_bytes name inode (tree.Directory entries) = refl
+named_bytes name inode (tree.Link target) = refl
+
+module _ (whole : Tree) (pass parent : ℕ) (name : List ℕ) (mode uid gid now : ℕ) where
+  abbrev entered : Node → Node
+  entered node = touched now (record node { content = named name whole.next_inode node.content })
+
+  abbrev made : Tree
+  made = with_node (new_file mode uid gid now) (with_handle (record { inode = whole.next_inode; pass = pass }) whole)
+
+  pub create_handles : (h : OpenHandles) → HasHandles h whole → HasHandles (opened (record { inode = whole.next_inode; pass = pass }) h) (effect whole pass (ops.Create parent name mode uid gid) now)
+  create_handles h has =
+      own_handles entered (λ node. named_bytes name whole.next_inode node.content) parent made (opened (record { inode = whole.next_inode; pass = pass }) h) (
+        ap (λ n. n + 1) has.0,
+        ap (λ n. insert_entry nat_cmp whole.handles n (record { inode = whole.next_inode; pass = pass })) has.0
+            ∙ ap (λ (hs : List (ℕ × tree.Handle)). insert_entry nat_cmp hs h.next (record { inode = whole.next_inode; pass = pass })) has.1,
+      )
+
+  pub create_bytes : (files : Files) → HasBytes files whole → HasBytes files (effect whole pass (ops.Create parent name mode uid gid) now)
+  create_bytes files has = bytes_kept entered (λ node. named_bytes name whole.next_inode node.content) parent made files (record { bytes = each; fresh = λ x above. has.fresh x (omega (arith, above)) })
+    where
+      by_number : (x : ℕ) (b : List ℕ) (d : Bool) → (x == whole.next_inode) ≡ d → file_at made x ≡ Some b → bytes_at files x ≡ b
+      by_number x b true here is =
+          let same : x ≡ whole.next_inode = eqb-true x whole.next_inode here in
+          let new : file_at made x ≡ Some [] =
+          ap (file_at made) same ∙ ap (option_and_then (λ (node : Node). bytes_of node.content)) (inserted_here nat_cmp numbers_tell whole.next_inode (new_file mode uid gid now) whole.nodes) in
+          let empty : [] ≡ b = cc (sym new ∙ is) in
+          has.fresh x (subst (λ n. whole.next_inode ≤ n) (sym same) (omega arith)) ∙ empty
+      by_number x b false apart is =
+          let other : x ≢ whole.next_inode = λ same. let clash : true ≡ false = sym (eq-eqb x whole.next_inode same) ∙ apart in cc clash in
+          let old : file_at made x ≡ file_at whole x =
+          ap (option_and_then (λ (node : Node). bytes_of node.content)) (inserted_there nat_cmp numbers_tell whole.next_inode x (new_file mode uid gid now) whole.nodes other) in
+          has.bytes x b (sym old ∙ is)
+
+      each : (x : ℕ) (b : List ℕ) → file_at made x ≡ Some b → bytes_at files x ≡ b
+      each x b is = by_number x b (x == whole.next_inode) refl is
+
+-- ---- the last check
+
+last_fails : (xs : List (Option ℕ)) (c : Option ℕ) → first_failure (xs ++ c ∷ []) ≡ None → c ≡ None
+last_fails [] None is = refl
+last_fails [] (Some errno) is = absurd (cc is)
+last_fails (None ∷ xs) c is = last_fails xs c is
+last_fails (Some errno ∷ xs) c is = absurd (cc is)
+
+pub create_hand : (whole : Tree) (pass parent : ℕ) (name : List ℕ) (mode uid gid : ℕ) → first_failure (checks whole pass (ops.Create parent name mode uid gid)) ≡ None → hand_check whole ≡ None
+create_hand whole pass parent name mode uid gid passes = last_fails (make_checks whole parent name mode) (hand_check whole) passes
+
+pub open_hand : (whole : Tree) (pass inode : ℕ) → first_failure (checks whole pass (ops.Open inode)) ≡ None → hand_check whole ≡ None
+open_hand whole pass inode passes = last_fails (node_check (node_at whole inode) ∷ file_check (node_at whole inode) ∷ []) (hand_check whole) passes
+
+-- ---- Open
+
+pub open_handles : (whole : Tree) (pass inode now : ℕ) (h : OpenHandles) → HasHandles h whole → first_failure (checks whole pass (ops.Open inode)) ≡ None
+    → HasHandles (handles_after (inode_opened (success whole pass (ops.Open inode) now)) pass h) (effect whole pass (ops.Open inode) now)
+open_handles whole pass inode now h has passes = by_node (node_at whole inode) refl
+  where
+    with_it : HasHandles (opened (record { inode = inode; pass = pass }) h) (effect whole pass (ops.Open inode) now)
+    with_it = (
+      ap (λ n. n + 1) has.0,
+      ap (λ n. insert_entry nat_cmp whole.handles n (record { inode = inode; pass = pass })) has.0 ∙ ap (λ (hs : List (ℕ × tree.Handle)). insert_entry nat_cmp hs h.next (record { inode = inode; pass = pass })) has.1,
+    )
+
+    by_node : (found : Option Node) → node_at whole inode ≡ found → HasHandles (handles_after (inode_opened (success whole pass (ops.Open inode) now)) pass h) (effect whole pass (ops.Open inode) now)
+    by_node None is =
+        let clash : Some 2 ≡ None = sym (ap (λ (n : Option Node). first_failure (node_check n ∷ file_check n ∷ hand_check whole ∷ [])) is) ∙ passes in
+        absurd (cc clash)
+    by_node (Some node) is =
+        let reply : success whole pass (ops.Open inode) now ≡ replies.Opened whole.next_handle (attr_of whole inode node) =
+        ap (λ (n : Option Node). let r : Reply = elim n [ Some found ↦ replies.Opened whole.next_handle (attr_of whole inode found) | None ↦ replies.Done ] in r) is in
+        subst (λ (r : Reply). HasHandles (handles_after (inode_opened r) pass h) (effect whole pass (ops.Open inode) now)) (sym reply) with_it
+
+-- ---- Release and Leave
+
+module _ (t : Tables) (whole : Tree) (v : IsValid t) (same : Represents t whole) (all_named : AreNamed t) (h : OpenHandles) (has : HasHandles h whole) (files : Files) (bytes : HasBytes files whole) (pass now : ℕ) where
+  module _ (number : ℕ) (passes : first_failure (checks whole pass (ops.Release number)) ≡ None) where
+    released : effect whole pass (ops.Release number) now ≡ without_handle number whole
+    released = by_handle (handle_of whole pass number) refl
+      where
+        no_file : (found : Option (List ℕ)) → first_failure (open_check found ∷ []) ≡ None → found ≡ None → ⊥
+        no_file None fails is = cc fails
+        no_file (Some b) fails is = cc is
+
+        by_row : (handle : tree.Handle) → handle_of whole pass number ≡ Some handle → (found : Option Inode) → inode_at t handle.inode ≡ found → effect whole pass (ops.Release number) now ≡ without_handle number whole
+        by_row handle here None there =
+            absurd (no_file (open_file whole pass number) passes (
+            ap (option_and_then (λ (x : tree.Handle). file_at whole x.inode)) here
+            ∙ ap (option_and_then (λ (node : Node). bytes_of node.content)) (node_absent t whole same handle.inode there)
+            ))
+        by_row handle here (Some r) there = released_is t whole pass number now same handle here r v all_named there
+
+        by_handle : (found : Option tree.Handle) → handle_of whole pass number ≡ found → effect whole pass (ops.Release number) now ≡ without_handle number whole
+        by_handle None here = absurd (no_file (open_file whole pass number) passes (ap (option_and_then (λ (x : tree.Handle). file_at whole x.inode)) here))
+        by_handle (Some handle) here = by_row handle here (inode_at t handle.inode) refl
+
+    pub release_effect : HasHandles (closed number h) (effect whole pass (ops.Release number) now) × HasBytes files (effect whole pass (ops.Release number) now)
+    release_effect =
+        subst (λ (next : Tree). HasHandles (closed number h) next × HasBytes files next) (sym released)
+        ((has.0, ap (remove_entry (is_at (nat_cmp number))) has.1), record { bytes = bytes.bytes; fresh = bytes.fresh })
+
+  pub leave_effect : HasHandles (closed_all pass h) (effect whole pass ops.Leave now) × HasBytes files (effect whole pass ops.Leave now)
+  leave_effect =
+      subst (λ (next : Tree). HasHandles (closed_all pass h) next × HasBytes files next) (sym (left_is t whole pass now v same all_named))
+      ((has.0, ap (filter (λ (e : ℕ × tree.Handle). not (e.1.pass == pass))) has.1), record { bytes = bytes.bytes; fresh = bytes.fresh })
+
+-- the one operation on entries that is planned
+pub is_create : (op : Op) → IsTrue (dir_plans.is_planned op) → (parent : ℕ) × (name : List ℕ) × (mode : ℕ) × (uid : ℕ) × (gid : ℕ) × (op ≡ ops.Create parent name mode uid gid)
+is_create (ops.Create parent name mode uid gid) is = (parent, name, mode, uid, gid, refl)
+is_create _ is = absurd (cc is)
+
+-- the data of a write in a frame fit into one frame
+pub short_write : (handle offset : ℕ) (bytes : List ℕ) → IsTrue (is_op (ops.Write handle offset bytes)) → length bytes ≤ 131072
+unfolding data_field data_length_field
+short_write handle offset bytes allowed = grind (arith, nat_tests)

@@ -1,0 +1,156 @@
+-- A core that was just opened.
+use Rattle.std.proofs.Common.{◌≡◌, ℕ, zero, suc, List, [], ◌∷◌, ◌++◌, length, Bool, true, false, Option, None, Some, refl, sym, ap, ◌∙◌, subst, arith, eqb-true}
+use Rattle.std.specs.Prelude.{IsTrue, ◌==◌, ◌||◌, not, option_map, unwrap_or}
+use Rattle.std.specs.List.{list_all}
+use Rattle.plain_tree.specs.Tree.{Tree}
+use Rattle.plain_tree.specs.Files.{file_at}
+use Rattle.s3_rows.specs.declared.change.Change.TheVariants as changes
+use Rattle.s3_rows.specs.Rows.{Inode, Parameters}
+use Rattle.s3_rows.specs.Keyed.{has_key}
+use Rattle.s3_rows.specs.Tables.{Tables, by_inode}
+use Rattle.s3_rows.specs.Selections.{inode_at}
+use Rattle.s3_rows.specs.Told.{Told, with_batch}
+use Rattle.s3_rows.specs.Validity.{IsValid, root, is_directory, is_regular, parent_of, leads_to_root, is_below_root}
+use Rattle.s3_rows.proofs.Finding.{found_all}
+use Rattle.s3_rows.proofs.Passing.{all_pass}
+use Rattle.tree_rows.specs.Shapes.{shape_of_tables, Represents}
+use Rattle.ref_counts.specs.Handles.{no_handles}
+use Rattle.volume_core.specs.declared.row_core.RowCore.{RowCore}
+use Rattle.volume_core.specs.Files.{Files, HasBytes}
+use Rattle.volume_core.specs.Opening.{AreReady, IsOpened, IsMounting, mounted}
+use Rattle.volume_core.specs.Rows.{is_file_row}
+use Rattle.volume_core.specs.Standing.{StandsFor}
+use Rattle.volume_core.proofs.Looking.{file_there, no_file}
+
+-- ---- tables with other parameters
+
+leads_same : (t : Tables) (p : Option Parameters) (steps id : ℕ) → leads_to_root steps (record t { params = p }) id ≡ leads_to_root steps t id
+leads_same t p zero id = refl
+leads_same t p (suc steps) id = by_case (leads_same t p steps) (parent_of t id)
+  where
+    by_case : ((x : ℕ) → leads_to_root steps (record t { params = p }) x ≡ leads_to_root steps t x) → (parent : Option ℕ)
+        → (id == root || elim parent [ Some x ↦ leads_to_root steps (record t { params = p }) x | None ↦ false ]) ≡ (id == root || elim parent [ Some x ↦ leads_to_root steps t x | None ↦ false ])
+    by_case rest None = refl
+    by_case rest (Some x) = ap (λ b. id == root || b) (rest x)
+
+module _ (t : Tables) (v : IsValid t) where
+  abbrev served_params : Parameters
+  served_params = mounted v.params
+
+  abbrev pub served : Tables
+  served = record t { params = Some served_params }
+
+  pub served_valid : IsValid served
+  served_valid = record {
+    params = served_params;
+    is_made = refl;
+    ordered = record {
+      inodes = v.ordered.inodes;
+      names = v.ordered.names;
+      contents = v.ordered.contents;
+      inode_blocks = v.ordered.inode_blocks;
+      blocks = v.ordered.blocks;
+      objects = v.ordered.objects;
+      targets = v.ordered.targets;
+      attrs = v.ordered.attrs;
+      slots = v.ordered.slots;
+    };
+    counts = record { inodes = v.counts.inodes; names = v.counts.names; blocks = v.counts.blocks; objects = v.counts.objects };
+    rows = record {
+      entries = v.rows.entries;
+      inode_blocks = v.rows.inode_blocks;
+      objects = v.rows.objects;
+      targets = v.rows.targets;
+      links = v.rows.links;
+      attrs = v.rows.attrs;
+      slots = v.rows.slots;
+    };
+    tree = record {
+      is_rooted = v.tree.is_rooted;
+      root_is_unnamed = v.tree.root_is_unnamed;
+      named_once = v.tree.named_once;
+      below_root = all_pass (is_below_root t) (is_below_root served) (λ r below. ap (λ b. not (is_directory r.kind) || b) (leads_same t (Some served_params) (length t.inodes) r.id) ∙ below) t.inodes v.tree.below_root;
+      legal = v.tree.legal;
+      unlike = v.tree.unlike;
+      keeps_lost_and_found = v.tree.keeps_lost_and_found;
+    };
+    orphans = v.orphans;
+    blocks = record { digests = v.blocks.digests; objects = v.blocks.objects; sizes = v.blocks.sizes; within = v.blocks.within };
+    sizes = record {
+      inodes = v.sizes.inodes;
+      inode_blocks = v.sizes.inode_blocks;
+      slots = v.sizes.slots;
+      spots = v.sizes.spots;
+      numbers = v.sizes.numbers;
+      lengths = v.sizes.lengths;
+    };
+    free = record { inodes = v.free.inodes; names = v.free.names; blocks = v.free.blocks; objects = v.free.objects };
+  }
+
+  shape_same : shape_of_tables served ≡ shape_of_tables t
+  shape_same = ap (λ (p : Option Parameters). record (shape_of_tables t) {
+    block_size = unwrap_or (option_map (λ (q : Parameters). q.block_size) p) 0;
+    next_inode = unwrap_or (option_map (λ (q : Parameters). q.next_inode) p) 0;
+  }) (sym v.is_made)
+
+  pub served_represents : (whole : Tree) → Represents t whole → Represents served whole
+  served_represents whole same = shape_same ∙ same
+
+-- ---- files without bytes
+
+no_bytes : (b : List ℕ) → length b ≡ 0 → [] ≡ b
+no_bytes [] is = refl
+no_bytes (x ∷ b) is = absurd (omega (arith, is))
+
+empty_files : (t : Tables) (whole : Tree) → Represents t whole → IsTrue (list_all (λ r. not (is_regular r.kind) || r.size == 0) t.inodes) → HasBytes [] whole
+empty_files t whole same empty = record { bytes = each; fresh = λ x above. refl }
+  where
+    size_of : (r : Inode) (b : Bool) → is_regular r.kind ≡ b → IsTrue (not b || r.size == 0) → b ≡ true → r.size ≡ 0
+    size_of r true kind test is = eqb-true r.size 0 test
+    size_of r false kind test is = absurd (cc is)
+
+    by_kind : (x : ℕ) (b : List ℕ) (r : Inode) → inode_at t x ≡ Some r → (c : Bool) → is_regular r.kind ≡ c → file_at whole x ≡ Some b → [] ≡ b
+    by_kind x b r there true regular is =
+        let file = file_there t whole same x r there regular in
+        let own : file.0 ≡ b = cc (sym file.1 ∙ is) in
+        let test : IsTrue (not (is_regular r.kind) || r.size == 0) = found_all (has_key by_inode x) (λ y. not (is_regular y.kind) || y.size == 0) t.inodes r empty there in
+        let none : r.size ≡ 0 = size_of r true regular (ap (λ k. not k || r.size == 0) (sym regular) ∙ test) refl in
+        no_bytes file.0 (file.2 ∙ none) ∙ own
+    by_kind x b r there false other is =
+        let absent : file_at whole x ≡ None = no_file t whole same x (ap is_file_row there ∙ other) in
+        let clash : None ≡ Some b = sym absent ∙ is in
+        absurd (cc clash)
+
+    by_row : (x : ℕ) (b : List ℕ) (found : Option Inode) → inode_at t x ≡ found → file_at whole x ≡ Some b → [] ≡ b
+    by_row x b None there is =
+        let absent : file_at whole x ≡ None = no_file t whole same x (ap is_file_row there) in
+        let clash : None ≡ Some b = sym absent ∙ is in
+        absurd (cc clash)
+    by_row x b (Some r) there is = by_kind x b r there (is_regular r.kind) refl is
+
+    each : (x : ℕ) (b : List ℕ) → file_at whole x ≡ Some b → [] ≡ b
+    each x b is = by_row x b (inode_at t x) refl is
+
+-- a core with the tables of a file system that is mounted, no handles and no bytes
+pub opened : {K : Type 0} (told : K → Option Told) (core : RowCore K) (s : Told) (whole : Tree) → AreReady s.tables → Represents s.tables whole → IsOpened whole → IsMounting s (told core.keeper)
+    → core.handles ≡ no_handles → core.files ≡ [] → StandsFor told core whole
+opened told core s whole ready same start mounting handles files =
+    let v : IsValid s.tables = ready.served.valid in
+    let p : Parameters = mounting.0 in
+    let own : Some p ≡ Some v.params = sym mounting.1 ∙ v.is_made in
+    let params : mounted p ≡ mounted v.params = cc own in
+    record {
+      now = record { tables = served s.tables v; batches = s.batches ++ (changes.SetParams (mounted v.params) ∷ []) ∷ [] };
+      tells = mounting.3 ∙ ap (λ (q : Parameters). Some (with_batch (changes.SetParams q ∷ []) s)) params;
+      served = record {
+        valid = served_valid s.tables v;
+        unique = ready.served.unique;
+        named = ready.served.named;
+        inode_blocks = ready.served.inode_blocks;
+        slots = ready.served.slots;
+      };
+      mounted = refl;
+      represents = served_represents s.tables v whole same;
+      handles = (start.0 ∙ ap (λ h. h.next) (sym handles), start.1 ∙ ap (λ h. h.handles) (sym handles));
+      bytes = subst (λ (f : Files). HasBytes f whole) (sym files) (empty_files s.tables whole same ready.empty);
+    }

@@ -1,0 +1,10 @@
+use Rattle.std.proofs.Common.{refl}
+use Rattle.volume_core.specs.declared.row_core.RowCore.{RowCore}
+use Rattle.volume_core.proofs.Carried.{file_opened_so}
+use Rattle.volume_core.proofs.row_core.RowCore.open_file.Goals as goal
+
+pub returns-clause-outcome : goal.returns-clause-outcome
+returns-clause-outcome g c whole s =
+    let before : RowCore g.row.K.Denot = c.args.self.now in
+    let after : RowCore g.row.K.Denot = record { alloc = c.args.self.now.alloc; keeper = c.open_as_planned.new.keeper; handles = c.open_as_planned.new.handles; files = c.args.self.now.files } in
+    file_opened_so g.K.Keeper.told before after whole s c.args.pass c.requires.op.0 c.args.op.now c.requires.op.1 c.args.now c.in_ok-plan.plan c.open_as_planned.result (g.K.Keeper.told c.plan.new.keeper) c.in_ok-plan.ensures.same c.in_ok-plan.ensures.plan c.open_as_planned.ensures.opening refl

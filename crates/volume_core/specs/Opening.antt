@@ -1,0 +1,38 @@
+-- When a core may be opened.
+use Rattle.std.specs.Prelude.{◌≡◌, ◌==◌, ◌||◌, not, [], ◌∷◌, IsTrue, Option, None, Some}
+use Rattle.std.specs.List.{list_all}
+use Rattle.plain_tree.specs.Tree.{Tree}
+use Rattle.s3_rows.specs.declared.change.Change.TheVariants as changes
+use Rattle.s3_rows.specs.declared.params.State.TheVariants as states
+use Rattle.s3_rows.specs.Rows.{Parameters}
+use Rattle.s3_rows.specs.Tables.{Tables}
+use Rattle.s3_rows.specs.Told.{Told, with_batch}
+use Rattle.s3_rows.specs.Validity.{is_regular}
+use Rattle.volume_core.specs.Standing.{AreServed}
+use Rattle.volume_core.specs.declared.row_core.OpenFault.{OpenFault}
+use Rattle.volume_core.specs.declared.row_core.OpenFault.TheVariants as faults
+
+-- tables whose regular files are all empty, since nobody keeps their bytes yet
+pub record AreReady (t : Tables) : Type 0 where
+  pub served : AreServed t
+  pub empty : IsTrue (list_all (λ r. not (is_regular r.kind) || r.size == 0) t.inodes)
+
+-- a tree that was just opened: no handles
+abbrev pub IsOpened : Tree → Type 0
+IsOpened whole = (whole.next_handle ≡ 1) × (whole.handles ≡ [])
+
+-- the parameters of a file system that is served
+abbrev pub mounted : Parameters → Parameters
+mounted p = record p { state = states.Mounted }
+
+-- it was closed in order, and one batch says that it is mounted
+abbrev pub IsMounting : Told → Option Told → Type 0
+IsMounting before after =
+    (p : Parameters) × (before.tables.params ≡ Some p) × (p.state ≡ states.Clean) × (after ≡ Some (with_batch (changes.SetParams (mounted p) ∷ []) before))
+
+-- the parameters for which opening is refused so
+abbrev pub IsCauseOf : OpenFault → Option Parameters → Type 0
+IsCauseOf faults.NoFileSystem params = params ≡ None
+IsCauseOf faults.Unclean params = (p : Parameters) × (params ≡ Some p) × (p.state ≡ states.Clean → ⊥)
+IsCauseOf faults.Keeper params = Unit {0}
+IsCauseOf faults.Memory params = Unit {0}

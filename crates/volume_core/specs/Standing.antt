@@ -1,0 +1,54 @@
+-- When a core over rows stands for a tree.
+use Rattle.std.specs.Prelude.{◌≡◌, ◌+◌, ◌≤◌, List, [], ◌∷◌, Bool, true, false, Option, None, Some, option_map}
+use Rattle.plain_tree.specs.Tree.{Tree}
+use Rattle.s3_rows.specs.declared.params.State.TheVariants as states
+use Rattle.s3_rows.specs.declared.change.Change.{Change}
+use Rattle.s3_rows.specs.Tables.{Tables}
+use Rattle.s3_rows.specs.Batches.{tables_after}
+use Rattle.s3_rows.specs.Told.{Told, IfTold, with_batch}
+use Rattle.s3_rows.specs.Validity.{IsValid, HasUniqueNames}
+use Rattle.tree_rows.specs.Shapes.{Represents}
+use Rattle.ref_counts.specs.Handles.{HasHandles}
+use Rattle.ref_counts.specs.Plans.{AreNamed, next_name_of, uses_of}
+use Rattle.volume_core.specs.Files.{HasBytes}
+use Rattle.volume_core.specs.declared.row_core.RowCore.{RowCore}
+
+-- Tables on which a core works whose files' bytes lie in memory: valid, names unique, and each file named by an entry.
+pub record AreServed (t : Tables) : Type 0 where
+  pub valid : IsValid t
+  pub unique : HasUniqueNames t
+  pub named : AreNamed t
+  pub inode_blocks : t.inode_blocks ≡ []
+  pub slots : t.slots ≡ []
+
+abbrev pub IsMounted : Tables → Type 0
+IsMounted t = option_map (λ p. p.state) t.params ≡ Some states.Mounted
+
+-- The keeper tells tables that represent the tree, and the core has its handles and the bytes of its files.
+pub record StandsFor {K : Type 0} (told : K → Option Told) (core : RowCore K) (whole : Tree) : Type 0 where
+  pub now : Told
+  pub tells : told core.keeper ≡ Some now
+  pub served : AreServed now.tables
+  pub mounted : IsMounted now.tables
+  pub represents : Represents now.tables whole
+  pub handles : HasHandles core.handles whole
+  pub bytes : HasBytes core.files whole
+
+-- it stands for some tree, if its keeper tells tables
+abbrev pub CanAnswer : {K : Type 0} → (K → Option Told) → RowCore K → Type 0
+CanAnswer told core = elim (told core.keeper) [ Some now ↦ (whole : Tree) × StandsFor told core whole | None ↦ Unit {0} ]
+
+-- what a batch, where it has a change, makes of what is told
+abbrev pub IsCommitted : List Change → Option Told → Option Told → Type 0
+IsCommitted [] before after = after ≡ before
+IsCommitted (c ∷ cs) before after = after ≡ option_map (with_batch (c ∷ cs)) before
+
+-- at most one more name is drawn and used
+pub record IsSmall (t after : Tables) : Type 0 where
+  pub names : next_name_of after ≤ next_name_of t + 1
+  pub uses : uses_of after ≤ uses_of t + 1
+
+-- what is told after a call: one batch more where rows are changed, and else what was told before
+abbrev pub IsToldAfter : Bool → Option Told → Option Told → Type 0
+IsToldAfter true before after = (batch : List Change) × (after ≡ option_map (with_batch batch) before) × IfTold before (λ t. IsSmall t (tables_after batch t))
+IsToldAfter false before after = after ≡ before

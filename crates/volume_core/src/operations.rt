@@ -1,0 +1,199 @@
+//! The operations that are built, each by its plan.
+ghost use Rattle.std.specs.Prelude.{◌≡◌, ◌<◌, ◌^◌, ℕ, false, None, Err, IsTrue, IfOk, IsErrOf};
+ghost use Rattle.s3_base.specs.Faults.{HasRisen};
+ghost use Rattle.op_frames.specs.declared.operation.Op.TheVariants as ops;
+ghost use Rattle.op_frames.specs.Operations.{is_op};
+ghost use Rattle.plain_tree.specs.Tree.{Tree};
+ghost use Rattle.s3_rows.specs.Told.{IfTold};
+ghost use Rattle.dir_ops.specs.Plans as dir_plans;
+ghost use Rattle.ref_counts.specs.Plans.{HasFitReply, is_fit};
+ghost use Rattle.volume_core.specs.Built.{is_built};
+ghost use Rattle.volume_core.specs.Plans.{IsTaken, IsOpening, inode_opened, inode_of_plan, keeps_handles};
+ghost use Rattle.volume_core.specs.Refusals.{IsOutcome};
+ghost use Rattle.volume_core.specs.Standing.{StandsFor, AreServed};
+
+use crate::RowCore;
+use crate::refusal::Refusal;
+use crate::rows::commit;
+use op_frames::{Op, Reply};
+use ref_counts::errno::{ENOSPC, ENOSYS};
+use ref_counts::{Handle, Handles, Plan};
+use s3_rows::Keeper;
+
+/// Commits what a plan says, and gives its reply.
+fn take<K: Keeper>(keeper: &mut K, plan: Plan) -> Result<Reply, Refusal>
+    requires fit { HasFitReply plan }
+    ensures taken { IsTaken plan (K.told keeper.old) (K.told keeper.new) result }
+    ensures untold { K.told keeper.old ≡ None → K.told keeper.new ≡ None }
+    ensures fault { IsErrOf result Refusal.Keeper → HasRisen (K.faults keeper.old) (K.faults keeper.new) }
+    ensures fit { IfOk result (λ reply. IsTrue (is_fit reply)) }
+{
+    match plan {
+        Plan::Refuse(errno) => Err(Refusal::Refused(errno)),
+        Plan::Worn => Err(Refusal::Worn),
+        Plan::Commit { batch, reply, .. } => {
+            commit(keeper, &batch)?;
+            Ok(reply)
+        }
+    }
+}
+
+/// The inode that a reply says is opened.
+fn opened_inode(reply: &Reply) -> Option<u64>
+    ensures { result ≡ inode_opened reply.now }
+{
+    match reply {
+        Reply::Opened { attr, .. } => Some(attr.inode),
+        _ => None,
+    }
+}
+
+/// The inode that a plan opens.
+fn opened_by(plan: &Plan) -> Option<u64>
+    ensures { result ≡ inode_of_plan plan.now }
+{
+    match plan {
+        Plan::Commit { reply, .. } => opened_inode(reply),
+        _ => None,
+    }
+}
+
+/// Commits what a plan says, and opens its file for the pass. The handle is made first, and goes again where the batch is not
+/// committed.
+fn open_as_planned<K: Keeper>(
+    keeper: &mut K,
+    handles: &mut Handles,
+    pass: u64,
+    plan: Plan,
+) -> Result<Reply, Refusal>
+    requires fit { HasFitReply plan }
+    ensures opening { IsOpening plan pass (K.told keeper.old) (K.told keeper.new) handles.old handles.new result }
+    ensures fault { IsErrOf result Refusal.Keeper → HasRisen (K.faults keeper.old) (K.faults keeper.new) }
+    ensures untold { K.told keeper.old ≡ None → K.told keeper.new ≡ None }
+    ensures fit { IfOk result (λ reply. IsTrue (is_fit reply)) }
+{
+    let Some(inode) = opened_by(&plan) else {
+        return take(keeper, plan);
+    };
+    if handles.is_full() {
+        return Err(Refusal::Refused(ENOSPC));
+    }
+    handles.open(Handle { inode, pass })?;
+    let taken = take(keeper, plan);
+    if taken.is_err() {
+        handles.take_back();
+    }
+    taken
+}
+
+impl<K: Keeper> RowCore<K> {
+    /// Carries out an operation of a pass, or says why not; then all is as before.
+    pub(crate) fn carry_out(&mut self, pass: u64, op: &Op, now: u64) -> Result<Reply, Refusal>
+        requires op { IsTrue (is_op op.now) }
+        requires now { now < 2 ^ 62 }
+        requires served { IfTold (K.told self.old.keeper) AreServed }
+        ensures built { IsTrue (is_built op.now) → (whole : Tree) → StandsFor K.told self.old whole → IsOutcome K.told self.old self.new whole pass op.now now result }
+        ensures unbuilt { is_built op.now ≡ false → (result ≡ Err (Refusal.Refused (record { 0 = 38 }))) × (self.new ≡ self.old) }
+        ensures fault { IsErrOf result Refusal.Keeper → HasRisen (K.faults self.old.keeper) (K.faults self.new.keeper) }
+        ensures untold { K.told self.old.keeper ≡ None → K.told self.new.keeper ≡ None }
+        ensures fit { IfOk result (λ reply. IsTrue (is_fit reply)) }
+    {
+        match op {
+            Op::Getattr { .. }
+            | Op::Chmod { .. }
+            | Op::Chown { .. }
+            | Op::Utimes { .. }
+            | Op::Statfs => self.change_attributes(pass, op, now),
+            Op::Create { .. } => self.create(pass, op, now),
+            Op::Open { .. } => self.open_file(pass, op, now),
+            Op::Release { handle } => self.release(pass, *handle, op, now),
+            Op::Leave => self.leave(pass, op, now),
+            Op::Truncate { inode, size } => self.truncate(*inode, *size, now),
+            Op::Read {
+                handle,
+                offset,
+                length,
+            } => self.read(pass, *handle, *offset, *length),
+            Op::Write {
+                handle,
+                offset,
+                bytes,
+            } => self.write(pass, *handle, *offset, bytes, now),
+            _ => Err(Refusal::Refused(ENOSYS)),
+        }
+    }
+
+    /// Carries out an operation that keeps all handles, by its plan.
+    fn change_attributes(&mut self, pass: u64, op: &Op, now: u64) -> Result<Reply, Refusal>
+        requires op { IsTrue (keeps_handles op.now) }
+        requires now { now < 2 ^ 62 }
+        requires served { IfTold (K.told self.old.keeper) AreServed }
+        ensures outcome { (whole : Tree) → StandsFor K.told self.old whole → IsOutcome K.told self.old self.new whole pass op.now now result }
+        ensures fault { IsErrOf result Refusal.Keeper → HasRisen (K.faults self.old.keeper) (K.faults self.new.keeper) }
+        ensures untold { K.told self.old.keeper ≡ None → K.told self.new.keeper ≡ None }
+        ensures fit { IfOk result (λ reply. IsTrue (is_fit reply)) }
+    {
+        let plan = inode_ops::plan(self.alloc, &mut self.keeper, &self.handles, pass, op, now)?;
+        take(&mut self.keeper, plan)
+    }
+
+    /// Makes a file and opens it.
+    fn create(&mut self, pass: u64, op: &Op, now: u64) -> Result<Reply, Refusal>
+        requires op { IsTrue (dir_plans.is_planned op.now) }
+        requires now { now < 2 ^ 62 }
+        requires served { IfTold (K.told self.old.keeper) AreServed }
+        ensures outcome { (whole : Tree) → StandsFor K.told self.old whole → IsOutcome K.told self.old self.new whole pass op.now now result }
+        ensures fault { IsErrOf result Refusal.Keeper → HasRisen (K.faults self.old.keeper) (K.faults self.new.keeper) }
+        ensures untold { K.told self.old.keeper ≡ None → K.told self.new.keeper ≡ None }
+        ensures fit { IfOk result (λ reply. IsTrue (is_fit reply)) }
+    {
+        let plan = dir_ops::plan(self.alloc, &mut self.keeper, &self.handles, pass, op, now)?;
+        open_as_planned(&mut self.keeper, &mut self.handles, pass, plan)
+    }
+
+    /// Opens a file.
+    fn open_file(&mut self, pass: u64, op: &Op, now: u64) -> Result<Reply, Refusal>
+        requires op { (inode : ℕ) × (op.now ≡ ops.Open inode) }
+        requires now { now < 2 ^ 62 }
+        requires served { IfTold (K.told self.old.keeper) AreServed }
+        ensures outcome { (whole : Tree) → StandsFor K.told self.old whole → IsOutcome K.told self.old self.new whole pass op.now now result }
+        ensures fault { IsErrOf result Refusal.Keeper → HasRisen (K.faults self.old.keeper) (K.faults self.new.keeper) }
+        ensures untold { K.told self.old.keeper ≡ None → K.told self.new.keeper ≡ None }
+        ensures fit { IfOk result (λ reply. IsTrue (is_fit reply)) }
+    {
+        let plan = inode_ops::plan(self.alloc, &mut self.keeper, &self.handles, pass, op, now)?;
+        open_as_planned(&mut self.keeper, &mut self.handles, pass, plan)
+    }
+
+    /// Closes a handle of the pass.
+    fn release(&mut self, pass: u64, handle: u64, op: &Op, now: u64) -> Result<Reply, Refusal>
+        requires op { op.now ≡ ops.Release handle }
+        requires now { now < 2 ^ 62 }
+        requires served { IfTold (K.told self.old.keeper) AreServed }
+        ensures outcome { (whole : Tree) → StandsFor K.told self.old whole → IsOutcome K.told self.old self.new whole pass op.now now result }
+        ensures fault { IsErrOf result Refusal.Keeper → HasRisen (K.faults self.old.keeper) (K.faults self.new.keeper) }
+        ensures untold { K.told self.old.keeper ≡ None → K.told self.new.keeper ≡ None }
+        ensures fit { IfOk result (λ reply. IsTrue (is_fit reply)) }
+    {
+        let plan = inode_ops::plan(self.alloc, &mut self.keeper, &self.handles, pass, op, now)?;
+        let reply = take(&mut self.keeper, plan)?;
+        self.handles.close(handle);
+        Ok(reply)
+    }
+
+    /// Closes all handles of the pass.
+    fn leave(&mut self, pass: u64, op: &Op, now: u64) -> Result<Reply, Refusal>
+        requires op { op.now ≡ ops.Leave }
+        requires now { now < 2 ^ 62 }
+        requires served { IfTold (K.told self.old.keeper) AreServed }
+        ensures outcome { (whole : Tree) → StandsFor K.told self.old whole → IsOutcome K.told self.old self.new whole pass op.now now result }
+        ensures fault { IsErrOf result Refusal.Keeper → HasRisen (K.faults self.old.keeper) (K.faults self.new.keeper) }
+        ensures untold { K.told self.old.keeper ≡ None → K.told self.new.keeper ≡ None }
+        ensures fit { IfOk result (λ reply. IsTrue (is_fit reply)) }
+    {
+        let plan = inode_ops::plan(self.alloc, &mut self.keeper, &self.handles, pass, op, now)?;
+        let reply = take(&mut self.keeper, plan)?;
+        self.handles.close_all(pass);
+        Ok(reply)
+    }
+}
