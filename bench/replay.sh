@@ -1,6 +1,7 @@
 #!/usr/bin/env bash
-# Times the built program over 200,000 and 400,000 Write and Read calls beside `cat` of the same input. Both write to a file
-# of a temporary folder. It needs python3 to make the input.
+# Times the built program: 200,000 and 400,000 Write and Read calls over 50 files, beside `cat` of the same input; then 20 calls
+# (Create, Write, Read, Getattr, Utimes, Truncate) on each of 1,000, 9,000 and 10,000 files of one directory, to compare the
+# last tenth of the files with the first. It writes to files of a temporary folder, and needs python3 to make the input.
 set -eu
 here=$(cd "$(dirname "$0")/.." && pwd)
 folder=$(mktemp -d)
@@ -15,17 +16,31 @@ seconds() {
   awk -v a="$start" -v b="$end" 'BEGIN { printf "%.3f", b - a }'
 }
 
-replay() { "$here/s3ql" replay 4096 64 8 <"$1" >"$folder/output"; }
+replay() { "$here/crates/s3ql/out/s3ql" replay 4096 64 8 <"$1" >"$folder/output"; }
 copy() { cat <"$1" >"$folder/copy"; }
+
+best_of() {
+  local best= took
+  for _ in $(seq "$1"); do
+    took=$(seconds replay "$folder/input")
+    best=$(printf '%s\n%s\n' "${best:-$took}" "$took" | sort -g | head -1)
+  done
+  echo "$best"
+}
 
 for number in 200000 400000; do
   python3 "$here/bench/make_frames.py" "$number" >"$folder/input"
   size=$(stat -c %s "$folder/input")
-  best=
-  for _ in 1 2 3; do
-    took=$(seconds replay "$folder/input")
-    best=$(printf '%s\n%s\n' "${best:-$took}" "$took" | sort -g | head -1)
-  done
+  best=$(best_of 3)
   plain=$(seconds copy "$folder/input")
   echo "$number calls, $size bytes: $best s ($(awk -v n="$number" -v t="$best" 'BEGIN { printf "%d", n / t }') calls a second, best of 3); cat: $plain s"
 done
+
+declare -A took
+for files in 1000 9000 10000; do
+  python3 "$here/bench/make_files.py" "$files" >"$folder/input"
+  took[$files]=$(best_of 5)
+  echo "$files files, $((files * 20)) calls: ${took[$files]} s (best of 5)"
+done
+awk -v first="${took[1000]}" -v most="${took[9000]}" -v all="${took[10000]}" 'BEGIN {
+  printf "the last tenth of the files: %.3f s, %.2f times the first\n", all - most, (all - most) / first }'
