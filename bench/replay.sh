@@ -29,7 +29,7 @@ best_of() {
 }
 
 for number in 200000 400000; do
-  python3 "$here/bench/make_frames.py" "$number" >"$folder/input"
+  python3 "$here/bench/make_frames.py" calls "$number" >"$folder/input"
   size=$(stat -c %s "$folder/input")
   best=$(best_of 3)
   plain=$(seconds copy "$folder/input")
@@ -38,7 +38,7 @@ done
 
 declare -A took
 for files in 1000 9000 10000; do
-  python3 "$here/bench/make_files.py" "$files" >"$folder/input"
+  python3 "$here/bench/make_frames.py" files "$files" >"$folder/input"
   took[$files]=$(best_of 5)
   echo "$files files, $((files * 20)) calls: ${took[$files]} s (best of 5)"
 done
