@@ -2,6 +2,7 @@
 use Rattle.std.specs.Prelude.{ℕ, ◌==◌, ◌<◌, List, [], ◌∷◌, ◌++◌, length, All, Bool, true, false, not, ◌&&◌, Option, None, Some, is_some, unwrap_or, option_and_then, nat_eq, if◌then◌else◌}
 use Rattle.std.specs.List.{IsDistinct}
 use Rattle.std.specs.Map.{keys_of}
+use Rattle.s3_base.specs.Errors.{eperm, enoent, enotdir, eisdir, einval}
 use Rattle.op_frames.specs.declared.operation.Op.{Op}
 use Rattle.op_frames.specs.declared.operation.Op.TheVariants as ops
 use Rattle.op_frames.specs.declared.operation.Op.TheVariants.{Getattr, Create, Read, Write}
@@ -35,8 +36,8 @@ drop_checks t parent name = name_check name ∷ [] ++ parent_checks t parent ++ 
 -- of a rename, where the names name two nodes: old is what moves, and new is what it replaces, if there is one
 abbrev pub move_checks : Tree → Option ℕ → Option Node → Option Node → ℕ → List (Option ℕ)
 move_checks t inode old new new_parent =
-    fails_with 22 (is_at_or_below t (unwrap_or inode 0) new_parent && is_folder old) ∷ lock_check new
-    ∷ fails_with 21 (is_some new && is_folder new && not (is_folder old)) ∷ fails_with 20 (is_some new && not (is_folder new) && is_folder old) ∷ empty_check new ∷ []
+    fails_with einval (is_at_or_below t (unwrap_or inode 0) new_parent && is_folder old) ∷ lock_check new
+    ∷ fails_with eisdir (is_some new && is_folder new && not (is_folder old)) ∷ fails_with enotdir (is_some new && not (is_folder new) && is_folder old) ∷ empty_check new ∷ []
 
 abbrev pub rename_checks : Tree → ℕ → List ℕ → ℕ → List ℕ → List (Option ℕ)
 rename_checks t parent name new_parent new_name =
@@ -54,12 +55,12 @@ checks t pass (ops.Utimes inode mtime) = time_check mtime ∷ node_check (node_a
 checks t pass (ops.Truncate inode size) = node_check (node_at t inode) ∷ file_check (node_at t inode) ∷ lock_check (node_at t inode) ∷ size_check size ∷ []
 checks t pass (ops.Mkdir parent name mode uid gid) = make_checks t parent name mode
 checks t pass (Create parent name mode uid gid) = make_checks t parent name mode ++ hand_check t ∷ []
-checks t pass (ops.Unlink parent name) = drop_checks t parent name ++ no_directory_check 21 (child_at t parent name) ∷ lock_check (child_at t parent name) ∷ []
+checks t pass (ops.Unlink parent name) = drop_checks t parent name ++ no_directory_check eisdir (child_at t parent name) ∷ lock_check (child_at t parent name) ∷ []
 checks t pass (ops.Rmdir parent name) = drop_checks t parent name ++ directory_check (child_at t parent name) ∷ lock_check (child_at t parent name) ∷ empty_check (child_at t parent name) ∷ []
 checks t pass (ops.Rename parent name new_parent new_name) = rename_checks t parent name new_parent new_name
 checks t pass (ops.Link inode parent name) =
-    name_check name ∷ node_check (node_at t inode) ∷ node_check (node_at t parent) ∷ directory_check (node_at t parent) ∷ no_directory_check 1 (node_at t inode)
-    ∷ lock_check (node_at t inode) ∷ lock_check (node_at t parent) ∷ fails_with 2 (not (is_named t inode)) ∷ free_check (node_at t parent) name ∷ []
+    name_check name ∷ node_check (node_at t inode) ∷ node_check (node_at t parent) ∷ directory_check (node_at t parent) ∷ no_directory_check eperm (node_at t inode)
+    ∷ lock_check (node_at t inode) ∷ lock_check (node_at t parent) ∷ fails_with enoent (not (is_named t inode)) ∷ free_check (node_at t parent) name ∷ []
 checks t pass (ops.Symlink parent name target uid gid) = name_check name ∷ target_check target ∷ [] ++ parent_checks t parent ++ free_check (node_at t parent) name ∷ ids_check t 1 ∷ []
 checks t pass (ops.Readlink inode) = node_check (node_at t inode) ∷ link_check (node_at t inode) ∷ []
 checks t pass (ops.Open inode) = node_check (node_at t inode) ∷ file_check (node_at t inode) ∷ hand_check t ∷ []
@@ -76,7 +77,7 @@ checks t pass (ops.Getxattr inode name) = attribute_name_check name ∷ node_che
 checks t pass (ops.Listxattr inode after most) = page_check most ∷ node_check (node_at t inode) ∷ []
 checks t pass (ops.Removexattr inode name) = attribute_name_check name ∷ node_check (node_at t inode) ∷ lock_check (node_at t inode) ∷ attribute_check (attribute_at t inode name) ∷ []
 checks t pass (ops.CopyTree source parent name) =
-    name_check name ∷ node_check (node_at t source) ∷ directory_check (node_at t source) ∷ node_check (node_at t parent) ∷ directory_check (node_at t parent) ∷ fails_with 22 (is_at_or_below t source parent)
+    name_check name ∷ node_check (node_at t source) ∷ directory_check (node_at t source) ∷ node_check (node_at t parent) ∷ directory_check (node_at t parent) ∷ fails_with einval (is_at_or_below t source parent)
     ∷ lock_check (node_at t parent) ∷ free_check (node_at t parent) name ∷ ids_check t (length (at_and_below t source)) ∷ []
 checks t pass (ops.LockTree inode) = node_check (node_at t inode) ∷ directory_check (node_at t inode) ∷ root_check inode ∷ []
 checks t pass (ops.RemoveTree parent name) = drop_checks t parent name ++ directory_check (child_at t parent name) ∷ []

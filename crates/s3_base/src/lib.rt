@@ -6,21 +6,17 @@ mod clock;
 mod errors;
 mod memory;
 mod node_kind;
-mod number_list;
 mod sequence;
 mod standard;
 mod stream;
 #[cfg(test)]
 mod tests;
-mod word_list;
 
 pub use byte_list::ByteList;
 pub use clock::{Clock, FixedClock};
 pub use errors::{Errno, Failed};
 pub use memory::{MemSink, MemSource};
 pub use node_kind::Kind;
-pub use number_list::NumberList;
-pub use sequence::Sequence;
+pub use sequence::{NumberList, Sequence, WordList};
 pub use standard::{StdClock, StdSink, StdSource};
 pub use stream::{Sink, Source};
-pub use word_list::WordList;

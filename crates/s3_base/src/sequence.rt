@@ -1,9 +1,16 @@
-ghost use Rattle.std.specs.Prelude.{◌≡◌, ◌++◌, [], ◌∷◌, List, length, OnOk, OnErr};
+ghost use Rattle.std.specs.Prelude.{◌≡◌, ◌++◌, [], ◌∷◌, List, length, IfOk, OnOk, OnErr, IsTrue, ◌↔◌, Contains};
 
+use crate::ByteList;
 use std::alloc::{AllocError, Global};
 use std::marker::Model;
 
-/// Items in order, owned: rows, keys or numbers that a call takes or gives.
+/// Numbers in order.
+pub type NumberList = Sequence<u64>;
+
+/// The words of a command, in order, without the program's name.
+pub type WordList = Sequence<ByteList>;
+
+/// Items in order, owned: rows, keys, names, words or numbers that a call takes or gives.
 #[derive(Debug, Drop)]
 pub struct Sequence<T> {
     items: Vec<T>,
@@ -51,6 +58,25 @@ impl<T: Drop> Sequence<T> {
     {
         self.items.push(item)?;
         Ok(())
+    }
+}
+
+impl<T: Copy> Sequence<T> {
+    /// A copy of the items.
+    pub fn from_slice(alloc: Global, items: &[T]) -> Result<Self, AllocError>
+        ensures { IfOk result (λ s. s ≡ items.now) }
+    {
+        Ok(Sequence {
+            items: Vec::from_slice(alloc, items)?,
+        })
+    }
+}
+
+impl Sequence<u64> {
+    pub fn contains(&self, number: u64) -> bool
+        ensures { IsTrue result ↔ Contains self.now number }
+    {
+        self.items.contains(&number)
     }
 }
 
