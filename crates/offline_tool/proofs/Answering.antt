@@ -14,7 +14,7 @@ use Rattle.s3_rows.specs.Told.{Told, with_batch}
 use Rattle.ref_counts.specs.Plans.{next_name_of, uses_of, IsWorn}
 use Rattle.volume_core.specs.declared.row_core.RowCore.{RowCore}
 use Rattle.volume_core.specs.Answers.{IsForced, IsRowAnswer, changes_rows}
-use Rattle.volume_core.specs.Built.{IsCoreAnswer}
+use Rattle.plain_tree.specs.Built.{IsCoreAnswer}
 use Rattle.volume_core.specs.Opening.{IsMounting, mounted}
 use Rattle.volume_core.specs.Standing.{StandsFor, IsSmall, IsToldAfter}
 use Rattle.offline_tool.specs.Serving.{told_by, Serves}

@@ -5,7 +5,7 @@ use Rattle.op_frames.specs.declared.reply.Reply.{Reply}
 use Rattle.op_frames.specs.Answers.{answer_frame, bad_input_frame}
 use Rattle.op_frames.specs.Replay.{Replay, Verdict, Ended, Refused, replay_of}
 use Rattle.plain_tree.specs.Tree.{Tree, made_tree}
-use Rattle.volume_core.specs.Built.{CoreAnswers}
+use Rattle.plain_tree.specs.Built.{CoreAnswers}
 
 -- the frame behind the answers to the calls
 abbrev pub verdict_frame : Verdict → List ℕ

@@ -5,7 +5,7 @@ ghost use Rattle.op_frames.specs.Answers.{has_short_data};
 ghost use Rattle.op_frames.specs.Replay.{input_limit};
 ghost use Rattle.plain_tree.specs.Tree.{Tree, made_tree};
 ghost use Rattle.s3_rows.specs.Made.{made_tables};
-ghost use Rattle.volume_core.specs.Built.{IsCoreAnswer};
+ghost use Rattle.plain_tree.specs.Built.{IsCoreAnswer};
 ghost use Rattle.offline_tool.specs.Serving.{Serves};
 
 use op_frames::{Op, Reply};

@@ -1,5 +1,5 @@
 -- Calls one after the other.
-use Rattle.std.specs.Prelude.{◌≡◌, ◌⊎◌, List, [], ◌∷◌}
+use Rattle.std.specs.Prelude.{List, [], ◌∷◌}
 use Rattle.op_frames.specs.declared.reply.Reply.{Reply}
 use Rattle.op_frames.specs.declared.reply.Reply.TheVariants as replies
 use Rattle.op_frames.specs.declared.reply.Cause.TheVariants as causes
@@ -20,15 +20,3 @@ tree_after_all t (call ∷ calls) = tree_after_all (tree_after t call.pass call.
 -- the reply of want of memory
 abbrev pub no_memory : Reply
 no_memory = replies.Fault causes.Memory
-
--- Reply and tree are those of the rules; or memory ran out, and the tree is as before.
-abbrev pub IsAnswer : Tree → Request → Reply → Tree → Type 0
-IsAnswer t call reply after =
-    ((reply ≡ reply_to t call.pass call.op call.now) × (after ≡ tree_after t call.pass call.op call.now)) ⊎ ((reply ≡ no_memory) × (after ≡ t))
-
--- Each reply is that of the rules to the tree that the calls before it left, but for want of memory, which leaves the tree.
-abbrev pub Answers : Tree → List Request → List Reply → Type 0
-Answers t [] [] = Unit {0}
-Answers t (call ∷ calls) (reply ∷ others) = (after : Tree) × IsAnswer t call reply after × Answers after calls others
-Answers t [] (reply ∷ others) = ⊥
-Answers t (call ∷ calls) [] = ⊥

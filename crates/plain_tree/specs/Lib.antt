@@ -1,9 +1,12 @@
 pub mod Attributes
 pub mod Below
+pub mod Built
 pub mod Calls
 pub mod Checks
 pub mod Entries
 pub mod Files
+pub mod Names
+pub mod Numbers
 pub mod Operations
 pub mod Pages
 pub mod Rows

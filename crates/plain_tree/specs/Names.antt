@@ -1,4 +1,4 @@
--- The names in directories.
+-- The names of entries and attributes.
 use Rattle.std.specs.Prelude.{◌≡◌, ℕ, List, [], ◌∷◌}
 use Rattle.std.specs.Cmp.Lexicographic.{slice_cmp}
 use Rattle.std.specs.Map.{keys_of, values_of}
@@ -23,3 +23,11 @@ NamesRise (node ∷ nodes) = Rise (keys_of (entries_of node.content)) × NamesRi
 
 abbrev pub NamesInOrder : Tree → Type 0
 NamesInOrder t = NamesRise (values_of t.nodes)
+
+-- the attributes of each node are in the order of their names, and no two have one name
+abbrev pub AttributesRise : List Node → Type 0
+AttributesRise [] = Unit {0}
+AttributesRise (node ∷ nodes) = Rise (keys_of node.attributes) × AttributesRise nodes
+
+abbrev pub AttributesInOrder : Tree → Type 0
+AttributesInOrder t = AttributesRise (values_of t.nodes)

@@ -1,4 +1,4 @@
--- The numbers of nodes.
+-- The numbers of nodes and handles.
 use Rattle.std.specs.Prelude.{ℕ, ◌+◌, ◌≤◌, List, [], ◌∷◌}
 use Rattle.std.specs.Map.{keys_of}
 use Rattle.plain_tree.specs.Tree.{Tree}
@@ -11,3 +11,7 @@ Ascend low (number ∷ numbers) next = (low ≤ number) × Ascend (number + 1) n
 -- the nodes are in the order of their numbers, no two have one number, and each is below the next one
 abbrev pub InOrder : Tree → Type 0
 InOrder t = Ascend 0 (keys_of t.nodes) t.next_inode
+
+-- the same of the handles
+abbrev pub HandlesInOrder : Tree → Type 0
+HandlesInOrder t = Ascend 0 (keys_of t.handles) t.next_handle

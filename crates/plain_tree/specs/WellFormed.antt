@@ -1,8 +1,10 @@
--- What holds of every tree that was made and then changed by operations.
-use Rattle.std.specs.Prelude.{◌≡◌, ◌≢◌, ℕ, zero, suc, ◌^◌, ◌≤◌, List, [], ◌∷◌, length, sum_by, Bool, false, true, IsTrue, IsSome, Option, None, Some}
+-- Well-formed trees: what holds of every tree that was made and then changed by operations.
+use Rattle.std.specs.Prelude.{◌≡◌, ◌≢◌, ℕ, zero, suc, ◌^◌, ◌<◌, ◌≤◌, List, [], ◌∷◌, length, sum_by, Bool, false, true, IsTrue, IsSome, Option, None, Some}
 use Rattle.plain_tree.specs.Tree.{Content, Regular, Directory, Link, Node, Tree, root, lost_and_found, node_at}
 use Rattle.plain_tree.specs.Attributes.{names_in}
 use Rattle.plain_tree.specs.Checks.{name_check, attribute_name_check, value_check, target_check}
+use Rattle.plain_tree.specs.Names.{NamesInOrder, AttributesInOrder}
+use Rattle.plain_tree.specs.Numbers.{InOrder, HandlesInOrder}
 use Rattle.plain_tree.specs.Entries.{is_folder, entry_at, child_at, is_named, is_open}
 
 -- it is a regular file that is there
@@ -56,3 +58,28 @@ pub record IsWithinRules (t : Tree) : Type 0 where
   pub nodes : AreWithinLimits t.nodes
   pub next_inode : t.next_inode ≤ 2 ^ 62
   pub next_handle : t.next_handle ≤ 2 ^ 62
+
+-- modes have the twelve bits of permissions alone
+abbrev pub HaveModes : List (ℕ × Node) → Type 0
+HaveModes [] = Unit {0}
+HaveModes (e ∷ nodes) = (e.1.mode ≤ 4095) × HaveModes nodes
+
+-- what holds of every tree, whatever calls come, but for its times
+pub record IsWellFormed (t : Tree) : Type 0 where
+  pub nodes : InOrder t
+  pub handles : HandlesInOrder t
+  pub names : NamesInOrder t
+  pub attributes : AttributesInOrder t
+  pub tree : HasOneTree t
+  pub orphans : HasNoOrphans t
+  pub rules : IsWithinRules t
+  pub modes : HaveModes t.nodes
+
+-- times are below 2^62
+abbrev pub AreTimes : List (ℕ × Node) → Type 0
+AreTimes [] = Unit {0}
+AreTimes (e ∷ nodes) = (e.1.mtime < 2 ^ 62) × (e.1.ctime < 2 ^ 62) × AreTimes nodes
+
+-- the same where each call is made at such a time
+abbrev pub HasTimes : Tree → Type 0
+HasTimes t = AreTimes t.nodes

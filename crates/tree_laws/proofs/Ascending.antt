@@ -6,7 +6,7 @@ use Rattle.std.specs.List.{filter, filter_map, cons_option}
 use Rattle.std.specs.Map.{keys_of, remove_entry}
 use Rattle.std.specs.Ordering.{nat_cmp}
 use Rattle.std.specs.declared.cmp.Ordering.TheVariants.{Greater}
-use Rattle.tree_laws.specs.Numbers.{Ascend}
+use Rattle.plain_tree.specs.Numbers.{Ascend}
 
 pub lower : (low least : ℕ) (numbers : List ℕ) (next : ℕ) → least ≤ low → Ascend low numbers next → Ascend least numbers next
 lower low least [] next less ascend = omega (arith, less, ascend)

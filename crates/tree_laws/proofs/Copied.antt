@@ -24,8 +24,8 @@ use Rattle.plain_tree.specs.WellFormed.{HasOneTree}
 use Rattle.plain_tree.proofs.Replies.{reply_at, tree_at}
 use Rattle.tree_laws.specs.Changes.{ChangesOneNode}
 use Rattle.tree_laws.specs.Copies.{number_of, HasCopied, HasOneMore, LeavesTheRest, IsNew, IsAlike, IsCopied}
-use Rattle.tree_laws.specs.Names.{NamesInOrder}
-use Rattle.tree_laws.specs.Numbers.{InOrder}
+use Rattle.plain_tree.specs.Names.{NamesInOrder}
+use Rattle.plain_tree.specs.Numbers.{InOrder}
 use Rattle.tree_laws.proofs.Branches.{Copies}
 use Rattle.tree_laws.proofs.CopyShape.{kind_some, none_at, copy_shape}
 use Rattle.tree_laws.proofs.Copying.{place_within, with_copies, old_node, new_node}

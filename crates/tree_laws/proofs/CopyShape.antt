@@ -16,7 +16,7 @@ use Rattle.plain_tree.specs.Below.{is_among, children, walk, at_and_below}
 use Rattle.plain_tree.specs.Entries.{entry_at}
 use Rattle.plain_tree.specs.Subtrees.{place_of, copy_number, copied_content, copied_node, copies, with_copy}
 use Rattle.plain_tree.specs.Tree.{Content, Regular, Directory, Link, Node, Tree, node_at, entry_of}
-use Rattle.tree_laws.specs.Numbers.{InOrder}
+use Rattle.plain_tree.specs.Numbers.{InOrder}
 use Rattle.tree_laws.proofs.Bools.{left_true, right_true, either_true, differ}
 use Rattle.tree_laws.proofs.Branches.{Copies}
 use Rattle.tree_laws.proofs.Losing.{none_some}

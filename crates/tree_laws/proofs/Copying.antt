@@ -8,7 +8,7 @@ use Rattle.std.proofs.lemmas.Bool.{cases_eq, eqb-true, eq-eqb}
 use Rattle.plain_tree.specs.Below.{is_among, at_and_below}
 use Rattle.plain_tree.specs.Subtrees.{place_of, copy_number, copied_node, copies}
 use Rattle.plain_tree.specs.Tree.{Node, Tree, node_at}
-use Rattle.tree_laws.specs.Numbers.{InOrder}
+use Rattle.plain_tree.specs.Numbers.{InOrder}
 use Rattle.tree_laws.proofs.Bools.{left_true, right_true, either_true}
 use Rattle.tree_laws.proofs.CopyShape.{none_at}
 use Rattle.tree_laws.proofs.Losing.{none_some}

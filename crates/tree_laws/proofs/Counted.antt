@@ -11,8 +11,8 @@ use Rattle.std.proofs.lemmas.List.Sums.{sum_by-cons}
 use Rattle.plain_tree.specs.Attributes.{names_in}
 use Rattle.plain_tree.specs.Entries.{entries_of}
 use Rattle.plain_tree.specs.Tree.{Content, Regular, Directory, Link, Node, entry_of}
-use Rattle.tree_laws.specs.Names.{RiseFrom, Rise, NamesRise}
-use Rattle.tree_laws.specs.Numbers.{Ascend}
+use Rattle.plain_tree.specs.Names.{RiseFrom, Rise, NamesRise}
+use Rattle.plain_tree.specs.Numbers.{Ascend}
 use Rattle.tree_laws.proofs.Bools.{both_false, is_false}
 use Rattle.tree_laws.proofs.Losing.{none_some}
 use Rattle.tree_laws.proofs.Lookups.{past_first, named_from, not_below, above}

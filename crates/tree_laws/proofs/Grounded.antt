@@ -13,8 +13,8 @@ use Rattle.plain_tree.specs.Attributes.{kind_of, names_in}
 use Rattle.plain_tree.specs.Entries.{is_directory, is_folder, entry_at, is_named}
 use Rattle.plain_tree.specs.Tree.{Content, Regular, Directory, Link, Node, Tree, root, lost_and_found, node_at, entry_of}
 use Rattle.plain_tree.specs.WellFormed.{is_file, entries_naming, LeadsToRoot, HasOneTree, HasNoOrphans}
-use Rattle.tree_laws.specs.Names.{NamesInOrder}
-use Rattle.tree_laws.specs.Numbers.{InOrder}
+use Rattle.plain_tree.specs.Names.{NamesInOrder}
+use Rattle.plain_tree.specs.Numbers.{InOrder}
 use Rattle.tree_laws.proofs.Bools.{differ}
 use Rattle.tree_laws.proofs.CopyShape.{entry_some}
 use Rattle.tree_laws.proofs.Nodes.{same_number}

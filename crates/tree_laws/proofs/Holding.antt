@@ -20,7 +20,7 @@ use Rattle.plain_tree.specs.Tree.{Content, Regular, Directory, Link, Node, Tree,
 use Rattle.plain_tree.proofs.Replies.{reply_at}
 use Rattle.tree_laws.specs.LockedTrees.{Spares, AllSpare, IsAsBefore}
 use Rattle.tree_laws.specs.Locks.{WouldChange, IsKept}
-use Rattle.tree_laws.specs.Numbers.{InOrder}
+use Rattle.plain_tree.specs.Numbers.{InOrder}
 use Rattle.tree_laws.proofs.CopyShape.{none_at, copy_shape}
 use Rattle.tree_laws.proofs.EachCall.{after_call}
 use Rattle.tree_laws.proofs.Locked.{first_of, refused}

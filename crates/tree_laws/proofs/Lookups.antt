@@ -10,8 +10,8 @@ use Rattle.std.specs.declared.cmp.Ordering.{Ordering}
 use Rattle.std.specs.declared.cmp.Ordering.TheVariants.{Less, Equal, Greater}
 use Rattle.std.proofs.lemmas.Bool.{eqb-true, eq-eqb}
 use Rattle.std.proofs.lemmas.Cmp.{nat_list_cmp_total, tied_itself}
-use Rattle.tree_laws.specs.Names.{RiseFrom, Rise}
-use Rattle.tree_laws.specs.Numbers.{Ascend}
+use Rattle.plain_tree.specs.Names.{RiseFrom, Rise}
+use Rattle.plain_tree.specs.Numbers.{Ascend}
 use Rattle.plain_tree.specs.Tree.{Node}
 use Rattle.tree_laws.proofs.Bools.{left_true, right_true, either_true}
 use Rattle.tree_laws.proofs.Nodes.{same_number, other_number, own_number}

@@ -14,8 +14,8 @@ use Rattle.plain_tree.specs.Operations.{checks, reply_to, tree_after, move_check
 use Rattle.plain_tree.specs.Subtrees.{is_same, dropped, moved_entry}
 use Rattle.plain_tree.specs.Tree.{Node, Tree, node_at, change_node, stamped}
 use Rattle.plain_tree.proofs.Replies.{reply_at, tree_at}
-use Rattle.tree_laws.specs.Names.{NamesInOrder}
-use Rattle.tree_laws.specs.Numbers.{InOrder}
+use Rattle.plain_tree.specs.Names.{NamesInOrder}
+use Rattle.plain_tree.specs.Numbers.{InOrder}
 use Rattle.tree_laws.specs.Renames.{IsRenamed, HasLostName}
 use Rattle.tree_laws.proofs.Bools.{left_false}
 use Rattle.tree_laws.proofs.Gaining.{Moves}

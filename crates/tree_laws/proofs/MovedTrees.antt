@@ -12,8 +12,8 @@ use Rattle.plain_tree.specs.Subtrees.{is_same, moved_entry}
 use Rattle.plain_tree.specs.Tree.{Tree, made_tree, node_at}
 use Rattle.plain_tree.specs.WellFormed.{HasOneTree, HasNoOrphans}
 use Rattle.plain_tree.proofs.Replies.{tree_at}
-use Rattle.tree_laws.specs.Names.{NamesInOrder}
-use Rattle.tree_laws.specs.Numbers.{InOrder}
+use Rattle.plain_tree.specs.Names.{NamesInOrder}
+use Rattle.plain_tree.specs.Numbers.{InOrder}
 use Rattle.tree_laws.specs.Renames.{IsRenamed}
 use Rattle.tree_laws.proofs.Lasting.{reached_sound, one_tree}
 use Rattle.tree_laws.proofs.Moved.{IsPlain, renamed_if, renamed_done}

@@ -7,8 +7,8 @@ use Rattle.s3_base.specs.declared.node_kind.Kind.TheVariants as kinds
 use Rattle.plain_tree.specs.Attributes.{kind_of}
 use Rattle.plain_tree.specs.Entries.{entry_at, is_named, is_open, lives, settled, add_entry, drop_entry, unnamed}
 use Rattle.plain_tree.specs.Tree.{Content, Regular, Directory, Link, Node, Tree, root, node_at, change_node, changed_by, without_node, named, touched, stamped}
-use Rattle.tree_laws.specs.Names.{NamesInOrder}
-use Rattle.tree_laws.specs.Numbers.{InOrder}
+use Rattle.plain_tree.specs.Names.{NamesInOrder}
+use Rattle.plain_tree.specs.Numbers.{InOrder}
 use Rattle.tree_laws.specs.Renames.{IsStamped, IsTouched}
 use Rattle.tree_laws.proofs.Gaining.{Moves}
 use Rattle.tree_laws.proofs.Losing.{Unlinks, Removes, none_some}

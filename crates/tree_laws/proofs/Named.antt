@@ -15,7 +15,7 @@ use Rattle.plain_tree.specs.Entries.{settled, entries_of, add_entry, drop_entry,
 use Rattle.plain_tree.specs.Files.{with_bytes, written_at, resized}
 use Rattle.plain_tree.specs.Operations.{tree_after}
 use Rattle.plain_tree.specs.Subtrees.{copied_content, copy_number}
-use Rattle.tree_laws.specs.Names.{Rise, NamesRise, NamesInOrder}
+use Rattle.plain_tree.specs.Names.{Rise, NamesRise, NamesInOrder}
 use Rattle.tree_laws.proofs.EachNode.{Each, Changes, Keeps, Own, each-found, each-filter, each_after, each_lasts}
 use Rattle.tree_laws.proofs.EachNode as each
 use Rattle.tree_laws.proofs.Rising.{rise-insert, rise-remove}

@@ -15,7 +15,7 @@ use Rattle.plain_tree.specs.Calls.{tree_after_all}
 use Rattle.plain_tree.specs.Entries.{settled, is_directory, lives}
 use Rattle.plain_tree.specs.Operations.{tree_after}
 use Rattle.plain_tree.specs.Subtrees.{copies, with_lock, left_over, without_directories}
-use Rattle.tree_laws.specs.Numbers.{Ascend, InOrder}
+use Rattle.plain_tree.specs.Numbers.{Ascend, InOrder}
 use Rattle.tree_laws.proofs.Ascending.{joined, ascend-left, ascend-remove, ascend-filter, ascend-insert}
 use Rattle.tree_laws.proofs.EachCall.{after_call, after_calls}
 use Rattle.tree_laws.proofs.Preserved as preserved_by

@@ -23,8 +23,8 @@ use Rattle.plain_tree.specs.Tree.{Content, Regular, Directory, Link, Node, Tree,
 use Rattle.plain_tree.specs.WellFormed.{HasOneTree, HasNoOrphans}
 use Rattle.plain_tree.proofs.Replies.{reply_at, tree_at}
 use Rattle.tree_laws.specs.Changes.{ChangesOneNode}
-use Rattle.tree_laws.specs.Names.{NamesInOrder}
-use Rattle.tree_laws.specs.Numbers.{Ascend, InOrder}
+use Rattle.plain_tree.specs.Names.{NamesInOrder}
+use Rattle.plain_tree.specs.Numbers.{Ascend, InOrder}
 use Rattle.tree_laws.specs.Removals.{IsRemoved}
 use Rattle.tree_laws.proofs.Ascending.{ascend-left, ascend-filter}
 use Rattle.tree_laws.proofs.Bools.{left_true, right_true, either_true, differ, is_false}

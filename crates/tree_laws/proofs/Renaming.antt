@@ -11,8 +11,8 @@ use Rattle.plain_tree.specs.Entries.{is_directory, is_folder, entry_at, add_entr
 use Rattle.plain_tree.specs.Operations.{move_checks}
 use Rattle.plain_tree.specs.Subtrees.{is_same, dropped, moved_entry}
 use Rattle.plain_tree.specs.Tree.{Content, Regular, Directory, Link, Node, Tree, node_at, change_node, stamped}
-use Rattle.tree_laws.specs.Names.{NamesInOrder}
-use Rattle.tree_laws.specs.Numbers.{InOrder}
+use Rattle.plain_tree.specs.Names.{NamesInOrder}
+use Rattle.plain_tree.specs.Numbers.{InOrder}
 use Rattle.tree_laws.proofs.Bools.{left_false}
 use Rattle.tree_laws.proofs.Gaining.{IsBelow, Moves, moved}
 use Rattle.tree_laws.proofs.Losing.{Unlinks, none_some, unlinked}

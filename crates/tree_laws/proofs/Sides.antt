@@ -15,8 +15,8 @@ use Rattle.plain_tree.specs.Tree.{Node, Tree, made_tree, node_at, handle_of, cha
 use Rattle.plain_tree.specs.WellFormed.{HasOneTree}
 use Rattle.plain_tree.proofs.Replies.{tree_at}
 use Rattle.tree_laws.specs.Copies.{number_of, node_written, IsCopied, AreApart}
-use Rattle.tree_laws.specs.Names.{NamesInOrder}
-use Rattle.tree_laws.specs.Numbers.{InOrder}
+use Rattle.plain_tree.specs.Names.{NamesInOrder}
+use Rattle.plain_tree.specs.Numbers.{InOrder}
 use Rattle.tree_laws.proofs.Alone.{stays_alone}
 use Rattle.tree_laws.proofs.Copied.{CanBeCopied, node_below, can_be, copy_done}
 use Rattle.tree_laws.proofs.Lasting.{one_tree}

@@ -16,8 +16,8 @@ use Rattle.plain_tree.specs.Files.{file_at, open_file, inode_of, with_bytes}
 use Rattle.plain_tree.specs.Operations.{new_file, HandlesBelow}
 use Rattle.plain_tree.specs.Subtrees.{dropped, copy_number, with_copy, without_tree}
 use Rattle.plain_tree.specs.Tree.{Content, Regular, Directory, Link, Node, Handle, Tree, root, lost_and_found, node_at, entry_of, handle_of, change_node, with_node, with_handle, without_handle, without_node, touched, stamped}
-use Rattle.tree_laws.specs.Names.{NamesInOrder}
-use Rattle.tree_laws.specs.Numbers.{InOrder}
+use Rattle.plain_tree.specs.Names.{NamesInOrder}
+use Rattle.plain_tree.specs.Numbers.{InOrder}
 use Rattle.tree_laws.proofs.Branches as branches
 use Rattle.tree_laws.proofs.Checked as checked
 use Rattle.tree_laws.proofs.CopyShape.{none_at, copy_shape}

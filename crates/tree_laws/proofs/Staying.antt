@@ -20,7 +20,7 @@ use Rattle.plain_tree.specs.Operations.{checks, effect, tree_after, new_file, ne
 use Rattle.plain_tree.specs.Subtrees.{is_same, dropped, moved_entry, copies, with_copy, left_over, without_directories, without_tree}
 use Rattle.plain_tree.proofs.Replies.{tree_at}
 use Rattle.tree_laws.specs.Locks.{WouldChange, IsKept}
-use Rattle.tree_laws.specs.Numbers.{InOrder}
+use Rattle.plain_tree.specs.Numbers.{InOrder}
 use Rattle.tree_laws.proofs.Checked.{first_passes}
 use Rattle.tree_laws.proofs.Locked.{first_of, refused}
 use Rattle.tree_laws.proofs.Nodes.{same_number, found_itself, changes_one}

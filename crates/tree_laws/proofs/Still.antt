@@ -8,7 +8,7 @@ use Rattle.std.specs.Ordering.{nat_cmp}
 use Rattle.std.specs.declared.cmp.Ordering.TheVariants.{Greater}
 use Rattle.plain_tree.specs.Tree.{Node, stamped}
 use Rattle.tree_laws.specs.Locks.{IsKept}
-use Rattle.tree_laws.specs.Numbers.{Ascend}
+use Rattle.plain_tree.specs.Numbers.{Ascend}
 use Rattle.tree_laws.proofs.Ascending.{below, ascend-left}
 use Rattle.tree_laws.proofs.Nodes.{same_number, other_number}
 

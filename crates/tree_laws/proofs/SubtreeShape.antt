@@ -15,8 +15,8 @@ use Rattle.plain_tree.specs.Below.{is_among, at_and_below}
 use Rattle.plain_tree.specs.Entries.{is_directory, entry_at, is_named, is_open, lives, drop_entry}
 use Rattle.plain_tree.specs.Subtrees.{with_lock, left_over, without_directories, without_tree, without_pass}
 use Rattle.plain_tree.specs.Tree.{Content, Regular, Directory, Link, Node, Handle, Tree, root, node_at, entry_of, own_handle, without_handle, stamped}
-use Rattle.tree_laws.specs.Names.{NamesInOrder}
-use Rattle.tree_laws.specs.Numbers.{Ascend, InOrder}
+use Rattle.plain_tree.specs.Names.{NamesInOrder}
+use Rattle.plain_tree.specs.Numbers.{Ascend, InOrder}
 use Rattle.tree_laws.proofs.Ascending.{ascend-left, ascend-filter}
 use Rattle.tree_laws.proofs.Bools.{left_true, right_true, either_true, left_false, differ, is_false}
 use Rattle.tree_laws.proofs.Branches.{Uproots}

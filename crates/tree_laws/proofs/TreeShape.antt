@@ -17,8 +17,8 @@ use Rattle.s3_base.specs.declared.node_kind.Kind.TheVariants as kinds
 use Rattle.plain_tree.specs.Attributes.{kind_of}
 use Rattle.plain_tree.specs.Entries.{entries_of, entry_at, is_named, is_open, lives, settled, add_entry, drop_entry, unnamed}
 use Rattle.plain_tree.specs.Tree.{Content, Regular, Directory, Link, Node, Handle, Tree, root, node_at, entry_of, change_node, changed_by, without_node, with_node, named, touched}
-use Rattle.tree_laws.specs.Names.{Rise, NamesRise, NamesInOrder}
-use Rattle.tree_laws.specs.Numbers.{Ascend, InOrder}
+use Rattle.plain_tree.specs.Names.{Rise, NamesRise, NamesInOrder}
+use Rattle.plain_tree.specs.Numbers.{Ascend, InOrder}
 use Rattle.tree_laws.proofs.Bools.{left_true, right_true, either_true}
 use Rattle.tree_laws.proofs.Losing.{Unlinks, Removes, none_some, removed, spared}
 use Rattle.tree_laws.proofs.Lookups.{numbers_tell, names_tell, inserted_here, inserted_there, removed_there, number_removed, name_removed, named_in, any_named}

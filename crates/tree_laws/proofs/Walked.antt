@@ -10,7 +10,7 @@ use Rattle.std.proofs.lemmas.List.Folds.{list_any-append}
 use Rattle.plain_tree.specs.Below.{is_among, children, walk, at_and_below}
 use Rattle.plain_tree.specs.Entries.{entries_of}
 use Rattle.plain_tree.specs.Tree.{Node, Tree, node_at}
-use Rattle.tree_laws.specs.Names.{Rise, NamesInOrder}
+use Rattle.plain_tree.specs.Names.{Rise, NamesInOrder}
 use Rattle.tree_laws.proofs.Bools.{left_true, right_true, either_true}
 use Rattle.tree_laws.proofs.Gaining.{IsBelow}
 use Rattle.tree_laws.proofs.Lookups.{any_named}

@@ -3,7 +3,5 @@ pub mod Copies
 pub mod Files
 pub mod LockedTrees
 pub mod Locks
-pub mod Names
-pub mod Numbers
 pub mod Removals
 pub mod Renames

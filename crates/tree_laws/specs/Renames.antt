@@ -2,8 +2,8 @@
 use Rattle.std.specs.Prelude.{◌≡◌, ◌≢◌, ◌⊎◌, ℕ, List, false, true, Option, None, Some}
 use Rattle.plain_tree.specs.Tree.{Directory, Node, Tree, node_at, stamped, touched}
 use Rattle.plain_tree.specs.Entries.{entry_at, lives}
-use Rattle.tree_laws.specs.Names.{NamesInOrder}
-use Rattle.tree_laws.specs.Numbers.{InOrder}
+use Rattle.plain_tree.specs.Names.{NamesInOrder}
+use Rattle.plain_tree.specs.Numbers.{InOrder}
 
 -- p and n are another directory or another name than these
 abbrev pub IsAnotherEntry : ℕ → List ℕ → ℕ → List ℕ → Type 0

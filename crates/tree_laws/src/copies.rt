@@ -8,8 +8,8 @@ ghost use Rattle.plain_tree.specs.Operations.{reply_to, tree_after};
 ghost use Rattle.plain_tree.specs.Tree.{Tree, made_tree};
 ghost use Rattle.plain_tree.specs.WellFormed.{HasOneTree};
 ghost use Rattle.tree_laws.specs.Copies.{IsCopied, AreApart};
-ghost use Rattle.tree_laws.specs.Names.{NamesInOrder};
-ghost use Rattle.tree_laws.specs.Numbers.{InOrder};
+ghost use Rattle.plain_tree.specs.Names.{NamesInOrder};
+ghost use Rattle.plain_tree.specs.Numbers.{InOrder};
 
 /// A copy is a copy: after a CopyTree is answered with attributes, the parent has one entry more, all else that was there is as
 /// before, each node at or below the source has one copy under a new number, and source and copy are equal but for number,

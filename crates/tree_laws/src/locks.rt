@@ -10,7 +10,7 @@ ghost use Rattle.plain_tree.specs.Operations.{reply_to, tree_after};
 ghost use Rattle.plain_tree.specs.Calls.{tree_after_all};
 ghost use Rattle.tree_laws.specs.Locks.{WouldChange, IsKept};
 ghost use Rattle.tree_laws.specs.LockedTrees.{AllSpare, AllSpareTree, IsAsBefore, StaysLocked};
-ghost use Rattle.tree_laws.specs.Numbers.{InOrder};
+ghost use Rattle.plain_tree.specs.Numbers.{InOrder};
 
 /// A locked node refuses what would change it: its mode, owner, times, bytes or attributes, an entry in it, or the entry that
 /// names it. The tree above it may be removed whole.

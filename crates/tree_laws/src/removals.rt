@@ -6,8 +6,8 @@ ghost use Rattle.plain_tree.specs.Tree.{Tree, made_tree};
 ghost use Rattle.plain_tree.specs.Calls.{tree_after_all};
 ghost use Rattle.plain_tree.specs.Operations.{reply_to, tree_after};
 ghost use Rattle.plain_tree.specs.WellFormed.{HasOneTree, HasNoOrphans};
-ghost use Rattle.tree_laws.specs.Names.{NamesInOrder};
-ghost use Rattle.tree_laws.specs.Numbers.{InOrder};
+ghost use Rattle.plain_tree.specs.Names.{NamesInOrder};
+ghost use Rattle.plain_tree.specs.Numbers.{InOrder};
 ghost use Rattle.tree_laws.specs.Removals.{IsRemoved};
 
 /// In every tree that is well formed, a RemoveTree that is answered Done removes what it names: the entry, and the directory

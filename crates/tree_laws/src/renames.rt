@@ -7,8 +7,8 @@ ghost use Rattle.plain_tree.specs.Calls.{tree_after_all};
 ghost use Rattle.plain_tree.specs.Entries.{entry_at};
 ghost use Rattle.plain_tree.specs.Operations.{reply_to, tree_after, HandlesBelow};
 ghost use Rattle.plain_tree.specs.WellFormed.{HasOneTree, HasNoOrphans};
-ghost use Rattle.tree_laws.specs.Names.{NamesInOrder};
-ghost use Rattle.tree_laws.specs.Numbers.{InOrder};
+ghost use Rattle.plain_tree.specs.Names.{NamesInOrder};
+ghost use Rattle.plain_tree.specs.Numbers.{InOrder};
 ghost use Rattle.tree_laws.specs.Renames.{IsRenamed};
 
 /// A Rename that is answered Done, of a name to one that does not name the same node, moves that entry: the old name is gone,

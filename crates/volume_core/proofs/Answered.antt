@@ -16,7 +16,7 @@ use Rattle.volume_core.specs.declared.refusal.Refusal.{Refusal}
 use Rattle.volume_core.specs.declared.refusal.Refusal.TheVariants.{Refused, Worn, Keeper, Memory}
 use Rattle.volume_core.specs.declared.row_core.RowCore.{RowCore}
 use Rattle.volume_core.specs.Answers.{keeper_failed, no_space, changes_rows, IsRowAnswer}
-use Rattle.volume_core.specs.Built.{is_built, not_built}
+use Rattle.plain_tree.specs.Built.{is_built, not_built}
 use Rattle.volume_core.specs.Standing.{AreServed, StandsFor, CanAnswer, IsToldAfter}
 use Rattle.volume_core.specs.Refusals.{IsOutcome}
 use Rattle.volume_core.proofs.Standing.{fact_told}

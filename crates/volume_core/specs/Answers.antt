@@ -10,7 +10,7 @@ use Rattle.plain_tree.specs.Checks.{first_failure}
 use Rattle.plain_tree.specs.Operations.{checks}
 use Rattle.s3_rows.specs.Told.{Told, IfTold}
 use Rattle.ref_counts.specs.Plans.{IsWorn, keeps_rows}
-use Rattle.volume_core.specs.Built.{is_built, core_reply, core_tree}
+use Rattle.plain_tree.specs.Built.{is_built, core_reply, core_tree}
 use Rattle.volume_core.specs.Standing.{IsToldAfter}
 
 -- the reply of a keeper that failed

@@ -1,5 +1,4 @@
 pub mod Answers
-pub mod Built
 pub mod Files
 pub mod Opening
 pub mod Plans

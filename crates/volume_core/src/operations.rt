@@ -7,7 +7,7 @@ ghost use Rattle.plain_tree.specs.Tree.{Tree};
 ghost use Rattle.s3_rows.specs.Told.{IfTold};
 ghost use Rattle.dir_ops.specs.Plans as dir_plans;
 ghost use Rattle.ref_counts.specs.Plans.{HasFitReply, is_fit};
-ghost use Rattle.volume_core.specs.Built.{is_built};
+ghost use Rattle.plain_tree.specs.Built.{is_built};
 ghost use Rattle.volume_core.specs.Plans.{IsTaken, IsOpening, inode_opened, inode_of_plan, keeps_handles};
 ghost use Rattle.volume_core.specs.Refusals.{IsOutcome};
 ghost use Rattle.volume_core.specs.Standing.{StandsFor, AreServed};
