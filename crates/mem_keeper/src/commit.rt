@@ -1,5 +1,5 @@
 //! A batch, committed whole or not at all.
-ghost use Rattle.std.specs.Prelude.{◌≡◌, ℕ, ◌+◌, ◌++◌, [], ◌∷◌, length, IsTrue, IfOk, OnOk, OnErr, All};
+ghost use Rattle.std.specs.Prelude.{◌≡◌, ℕ, ◌+◌, length, IsTrue, IfOk, OnOk, OnErr, All};
 ghost use Rattle.std.specs.Vec.{vec_len, vec_capacity};
 ghost use Rattle.s3_rows.specs.Tables.{IsOrdered};
 ghost use Rattle.s3_rows.specs.Batches.{tables_after};
@@ -83,30 +83,24 @@ fn room_for_gone(alloc: Global, rows: usize) -> Result<Gone, AllocError> {
     })
 }
 
-/// Makes the changes of a batch and records it, or changes nothing where there is no memory.
+/// Makes the changes of a batch, or changes nothing where there is no memory.
 pub(crate) fn commit_batch(
     alloc: Global,
     store: &mut Store,
     indexes: &mut Indexes,
-    batches: &mut Vec<Batch>,
     batch: &Batch,
 ) -> Result<(), AllocError>
     requires ordered { IsOrdered (tables_of store.old) }
     requires standing { IsTrue indexes.old.stand → Stand indexes.old (tables_of store.old) }
     ensures ok { OnOk result (tables_of store.new ≡ tables_after batch.now (tables_of store.old)) }
-    ensures recorded { OnOk result (batches.new.items ≡ batches.old.items ++ batch.now ∷ []) }
     ensures err { OnErr result (tables_of store.new ≡ tables_of store.old) }
-    ensures unrecorded { OnErr result (batches.new.items ≡ batches.old.items) }
     ensures ordered { IsOrdered (tables_of store.new) }
     ensures standing { IsTrue indexes.new.stand → Stand indexes.new (tables_of store.new) }
 {
-    let record = copy_of(batch)?;
     let changes = copy_of(batch)?.into_vec();
     let gone = room_for_gone(alloc, changes.len())?;
     make_room(store, changes.len())?;
-    batches.reserve(1)?;
     list_puts(indexes, alloc, changes.as_slice())?;
-    batches.push_reserved(record);
     apply_whole(store, indexes, gone, changes);
     Ok(())
 }

@@ -27,7 +27,7 @@ impl Keeper for MemKeeper {
 
     ghost faults = { λ s. s.faults };
 
-    /// A batch is recorded and made whole, or not at all.
+    /// A batch is made whole and counted, or not at all.
     fn commit(&mut self, batch: &Batch) -> Result<(), KeeperFault>
         ensures ok { OnOk result (self.new.told ≡ with_batch batch.now self.old.told) }
         ensures err { OnErr result (self.new.told ≡ self.old.told) }
@@ -39,12 +39,10 @@ impl Keeper for MemKeeper {
             self.alloc,
             &mut self.store,
             &mut self.indexes,
-            &mut self.batches,
             batch,
-        ) {
-            Ok(()) => Ok(()),
-            Err(_) => Err(KeeperFault::Memory),
-        }
+        )?;
+        self.commits = self.commits.saturating_add(1);
+        Ok(())
     }
 
     fn params(&mut self) -> Result<Option<Params>, KeeperFault>

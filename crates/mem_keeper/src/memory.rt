@@ -1,19 +1,20 @@
-ghost use Rattle.std.specs.Prelude.{◌≡◌, List, []};
+ghost use Rattle.std.specs.Prelude.{◌≡◌, []};
 ghost use Rattle.s3_rows.specs.Tables.{no_tables};
 
 use crate::indexes::Indexes;
 use crate::store::Store;
 use s3_base::NumberList;
-use s3_rows::{Batch, Tables};
+use s3_rows::Tables;
 use std::alloc::Global;
 use std::marker::Model;
 
-/// A store of tables in memory, whose calls of stated numbers fail. It tells its tables and the batches that were committed.
+/// A store of tables in memory, whose calls of stated numbers fail. It tells its tables and how many batches were
+/// committed.
 #[derive(Debug, Drop)]
 pub struct MemKeeper {
     pub(crate) store: Store,
     pub(crate) indexes: Indexes,
-    pub(crate) batches: Vec<Batch>,
+    pub(crate) commits: u64,
     pub(crate) calls: u64,
     pub(crate) fails: NumberList,
     pub(crate) faults: u64,
@@ -29,7 +30,7 @@ impl Model for MemKeeper {
 
     ghost Value = { KeeperState };
 
-    ghost view = { λ k. record { told = record { tables = tables_of k.store; batches = k.batches.items }; calls = k.calls; fails = k.fails; faults = k.faults } };
+    ghost view = { λ k. record { told = record { tables = tables_of k.store; commits = k.commits }; calls = k.calls; fails = k.fails; faults = k.faults } };
 
     ghost invariant = { λ k. record { ordered : IsOrdered (tables_of k.store); standing : IsTrue k.indexes.stand → Stand k.indexes (tables_of k.store) } };
 }
@@ -37,19 +38,19 @@ impl Model for MemKeeper {
 impl MemKeeper {
     /// An empty keeper that never fails, which takes no memory.
     pub fn new(alloc: Global) -> Self
-        ensures { result ≡ record { told = record { tables = no_tables; batches = [] }; calls = 0; fails = []; faults = 0 } }
+        ensures { result ≡ record { told = record { tables = no_tables; commits = 0 }; calls = 0; fails = []; faults = 0 } }
     {
         MemKeeper::with_fails(alloc, NumberList::new(alloc))
     }
 
     /// An empty keeper. `fails` has the numbers of the calls that fail, counted from 0.
     pub fn with_fails(alloc: Global, fails: NumberList) -> Self
-        ensures { result ≡ record { told = record { tables = no_tables; batches = [] }; calls = 0; fails = fails; faults = 0 } }
+        ensures { result ≡ record { told = record { tables = no_tables; commits = 0 }; calls = 0; fails = fails; faults = 0 } }
     {
         MemKeeper {
             store: Store::new(alloc),
             indexes: Indexes::new(alloc),
-            batches: Vec::new(alloc),
+            commits: 0,
             calls: 0,
             fails,
             faults: 0,
@@ -59,12 +60,12 @@ impl MemKeeper {
 
     /// A keeper of these tables that never fails. It keeps the lists as they are, and takes no memory.
     pub fn of(alloc: Global, tables: Tables) -> Self
-        ensures { result ≡ record { told = record { tables = tables; batches = [] }; calls = 0; fails = []; faults = 0 } }
+        ensures { result ≡ record { told = record { tables = tables; commits = 0 }; calls = 0; fails = []; faults = 0 } }
     {
         MemKeeper {
             store: Store::of(tables),
             indexes: Indexes::new(alloc),
-            batches: Vec::new(alloc),
+            commits: 0,
             calls: 0,
             fails: NumberList::new(alloc),
             faults: 0,

@@ -1,5 +1,5 @@
 -- What batches make of tables.
-use Rattle.std.proofs.Common.{false, ◌≡◌, ℕ, List, [], ◌∷◌, ◌++◌, refl, ap, sym, ◌∙◌}
+use Rattle.std.proofs.Common.{false, ◌≡◌, ℕ, ◌+◌, ◌^◌, ◌<◌, List, [], ◌∷◌, ◌++◌, length, refl, ap, arith}
 use Rattle.std.specs.Cmp.{IsTotalOrder, nat_cmp_total, on_total, then_total}
 use Rattle.s3_rows.specs.declared.change.Change.{Change}
 use Rattle.s3_rows.specs.declared.change.Change.TheVariants as changes
@@ -8,7 +8,7 @@ use Rattle.s3_rows.specs.Rows.{Inode, Name, Content, InodeBlock, Block, Object, 
 use Rattle.s3_rows.specs.Keyed.{pair_cmp, rises}
 use Rattle.s3_rows.specs.Tables.{Tables, IsOrdered, by_inode, by_name, by_entry, by_spot, by_block, by_object, by_target, by_attr, by_slot}
 use Rattle.s3_rows.specs.Batches.{after_change, finds_row, tables_after, tables_after_all}
-use Rattle.s3_rows.specs.Told.{Told, with_batch}
+use Rattle.s3_rows.specs.Told.{Told, one_more, with_batch, with_batches}
 use Rattle.s3_rows.proofs.Passing.{left_again}
 use Rattle.s3_rows.proofs.Placing.{absent_left, put_twice, put_rises, left_rises}
 
@@ -106,10 +106,15 @@ unchanged (changes.DeleteAttr inode name_id) t none = ap (λ rows. record t { at
 unchanged (changes.DeleteSlot slot) t none = ap (λ rows. record t { slots = rows }) (absent_left by_slot slot t.slots none)
 unchanged _ t none = absurd (cc none)
 
--- one batch more is made of what the batches before made
-last_batch : (bs : List (List Change)) (b : List Change) (t : Tables) → tables_after_all (bs ++ b ∷ []) t ≡ tables_after b (tables_after_all bs t)
-last_batch [] b t = refl
-last_batch (c ∷ cs) b t = last_batch cs b (tables_after c t)
+-- ---- what a keeper tells after batches
 
-pub folded : (first : Tables) (s : Told) (batch : List Change) → s.tables ≡ tables_after_all s.batches first → (with_batch batch s).tables ≡ tables_after_all (with_batch batch s).batches first
-folded first s batch is = ap (tables_after batch) is ∙ sym (last_batch s.batches batch first)
+pub folded : (s : Told) (batches : List (List Change)) → (with_batches batches s).tables ≡ tables_after_all batches s.tables
+folded s [] = refl
+folded s (b ∷ bs) = folded (with_batch b s) bs
+
+pub counted : (s : Told) (batches : List (List Change)) → s.commits + length batches < 2 ^ 64 → (with_batches batches s).commits ≡ s.commits + length batches
+counted s [] few = omega arith
+counted s (b ∷ bs) few =
+    let later : one_more s.commits + length bs < 2 ^ 64 = omega (arith, few) in
+    let rest : (with_batches bs (with_batch b s)).commits ≡ one_more s.commits + length bs = counted (with_batch b s) bs later in
+    omega (arith, few, rest)

@@ -1,5 +1,5 @@
 -- What a keeper tells, and what is known of its answers where it tells nothing.
-use Rattle.std.specs.Prelude.{ℕ, List, [], ◌∷◌, ◌++◌, length, Bool, true, false, ◌&&◌, ◌==◌, nat_lt, nat_le, Option, Result, Ok, Err, IfSome}
+use Rattle.std.specs.Prelude.{ℕ, ◌+◌, ◌-◌, ◌^◌, List, [], ◌∷◌, length, min, Bool, true, false, ◌&&◌, ◌==◌, nat_lt, nat_le, Option, Result, Ok, Err, IfSome}
 use Rattle.std.specs.List.{list_all}
 use Rattle.std.specs.Ordering.{nat_cmp}
 use Rattle.s3_rows.specs.declared.change.Change.{Change}
@@ -17,14 +17,23 @@ use Rattle.s3_rows.specs.Tables.{Tables, by_inode, by_name, by_entry, by_spot, b
 use Rattle.s3_rows.specs.Batches.{tables_after}
 use Rattle.s3_rows.specs.Selections.{is_row_past}
 
--- the tables, and the batches that were committed, the first of them first
+-- the tables, and how many batches were committed
 pub record Told : Type 0 where
   pub tables : Tables
-  pub batches : List (List Change)
+  pub commits : ℕ
+
+-- one more; the number stands still at the end of its type
+abbrev pub one_more : ℕ → ℕ
+one_more n = min (n + 1) (2 ^ 64 - 1)
 
 -- after one more batch
 abbrev pub with_batch : List Change → Told → Told
-with_batch batch s = record { tables = tables_after batch s.tables; batches = s.batches ++ batch ∷ [] }
+with_batch batch s = record { tables = tables_after batch s.tables; commits = one_more s.commits }
+
+-- after batches, one after the other
+abbrev pub with_batches : List (List Change) → Told → Told
+with_batches [] s = s
+with_batches (b ∷ bs) s = with_batches bs (with_batch b s)
 
 -- the fact holds of the tables, where they are told
 abbrev pub IfTold : Option Told → (Tables → Type 0) → Type 0

@@ -33,11 +33,11 @@ impl From<AllocError> for KeeperFault {
     }
 }
 
-/// A store of tables. It may tell its tables and the batches that made them; where it does not, the clauses on rows say
+/// A store of tables. It may tell its tables and how many batches were committed; where it does not, the clauses on rows say
 /// nothing, and a list still rises strictly and has at most `max` rows, so that a loop over pages ends. A call that is
 /// refused leaves the tables as they were.
 pub trait Keeper {
-    /// The tables and the batches committed so far, where the keeper tells them.
+    /// The tables, and how many batches were committed so far, where the keeper tells them.
     ghost told: { Self → Option Told };
 
     /// How often the device below has failed.

@@ -1,11 +1,11 @@
 //! Laws of batches, and what the definitions make of tables that are worked by hand. Each is the contract of a function
 //! without a body.
-ghost use Rattle.std.specs.Prelude.{◌≡◌, ℕ, List, ◌++◌, [], ◌∷◌, false};
+ghost use Rattle.std.specs.Prelude.{◌≡◌, ℕ, ◌+◌, ◌^◌, ◌<◌, List, ◌++◌, [], ◌∷◌, length, false};
 ghost use Rattle.std.specs.List.{list_all};
 ghost use Rattle.s3_rows.specs.declared.change.Change.{Change};
 ghost use Rattle.s3_rows.specs.Tables.{Tables, IsOrdered};
 ghost use Rattle.s3_rows.specs.Batches.{after_change, finds_row, tables_after, tables_after_all};
-ghost use Rattle.s3_rows.specs.Told.{Told, with_batch};
+ghost use Rattle.s3_rows.specs.Told.{Told, with_batches};
 ghost use Rattle.s3_rows.specs.Validity.{IsValid, HasUniqueNames, counts_inode, is_below_root};
 ghost use Rattle.s3_rows.specs.Stores.{IsClean, is_settled};
 ghost use Rattle.s3_rows.specs.Made.{made_tables, made_keys};
@@ -16,10 +16,10 @@ pub fn batches_join()
     ensures { (first second : List Change) (t : Tables) → tables_after second (tables_after first t) ≡ tables_after (first ++ second) t }
 {}
 
-/// The tables that a keeper tells stay those that it began with after its batches, one after the other.
+/// The tables that a keeper tells are those that it began with after its batches, one after the other, and each batch is counted.
 pub fn commits_are_folded()
-    ensures { (first : Tables) (s : Told) (batch : List Change) → s.tables ≡ tables_after_all s.batches first
-        → (with_batch batch s).tables ≡ tables_after_all (with_batch batch s).batches first }
+    ensures tables { (s : Told) (batches : List (List Change)) → (with_batches batches s).tables ≡ tables_after_all batches s.tables }
+    ensures commits { (s : Told) (batches : List (List Change)) → s.commits + length batches < 2 ^ 64 → (with_batches batches s).commits ≡ s.commits + length batches }
 {}
 
 /// A change that is made twice does what it does once.

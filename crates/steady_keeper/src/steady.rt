@@ -26,7 +26,7 @@ impl Model for SteadyKeeper {
 impl SteadyKeeper {
     /// An empty keeper, which takes no memory.
     pub fn new(alloc: Global) -> Self
-        ensures { result ≡ record { tables = no_tables; batches = [] } }
+        ensures { result ≡ record { tables = no_tables; commits = 0 } }
     {
         SteadyKeeper {
             keeper: MemKeeper::new(alloc),
@@ -35,7 +35,7 @@ impl SteadyKeeper {
 
     /// A keeper of these tables. It keeps the lists as they are, and takes no memory.
     pub fn of(alloc: Global, tables: Tables) -> Self
-        ensures { result ≡ record { tables = tables; batches = [] } }
+        ensures { result ≡ record { tables = tables; commits = 0 } }
     {
         SteadyKeeper {
             keeper: MemKeeper::of(alloc, tables),
