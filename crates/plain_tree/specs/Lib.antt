@@ -3,6 +3,7 @@ pub mod Below
 pub mod Built
 pub mod Calls
 pub mod Checks
+pub mod Classes
 pub mod Entries
 pub mod Files
 pub mod Names

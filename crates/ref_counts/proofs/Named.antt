@@ -72,10 +72,10 @@ known t bytes id r (Some n) ordered found is own =
     let same : id ≡ n.id = cc is in
     own ∙ ap (name_at t) same ∙ finds_itself by_name nat_cmp_total (has_bytes bytes) t.names n ordered.names found ∙ sym found
 
-pub row_is_known : (told after : Option Told) (bytes : List ℕ) (id : ℕ) (r : Option Name) → IfTold told IsOrdered → after ≡ told → IfTold told (λ t. Some id ≡ option_map (λ n. n.id) (name_of_bytes t bytes))
-    → IfTold after (λ t. r ≡ name_at t id) → IfTold told (λ t. r ≡ name_of_bytes t bytes)
-row_is_known None after bytes id r ordered same is own = tt
-row_is_known (Some s) after bytes id r ordered same is own =
+pub row_is_known : (told after : Option Told) (bytes : List ℕ) (id : ℕ) (r : Option Name) → after ≡ told → IfTold told (λ t. Some id ≡ option_map (λ n. n.id) (name_of_bytes t bytes))
+    → IfTold after (λ t. r ≡ name_at t id) → IfTold told (λ t. IsOrdered t → r ≡ name_of_bytes t bytes)
+row_is_known None after bytes id r same is own = tt
+row_is_known (Some s) after bytes id r same is own = λ ordered.
     known s.tables bytes id r (name_of_bytes s.tables bytes) ordered refl is (subst (λ x. IfTold x (λ t. r ≡ name_at t id)) same own)
 
 -- a row that was looked up by its bytes

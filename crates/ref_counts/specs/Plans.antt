@@ -9,6 +9,7 @@ use Rattle.op_frames.specs.Answers.{has_short_data}
 use Rattle.plain_tree.specs.Tree.{Tree}
 use Rattle.plain_tree.specs.Checks.{first_failure}
 use Rattle.plain_tree.specs.Operations.{checks, success, effect}
+use Rattle.plain_tree.specs.Classes.{keeps_rows, name_used, names_drawn}
 use Rattle.s3_rows.specs.Rows.{Parameters}
 use Rattle.s3_rows.specs.Tables.{Tables}
 use Rattle.s3_rows.specs.Batches.{tables_after}
@@ -22,7 +23,10 @@ use Rattle.ref_counts.specs.declared.plan.Plan.TheVariants as plans
 abbrev pub AreNamed : Tables → Type 0
 AreNamed t = IsTrue (list_all (λ r. not (r.refcount == 0)) t.inodes)
 
--- the id that the next new name gets
+-- the numbers that the next new inode and name get
+abbrev pub next_inode_of : Tables → ℕ
+next_inode_of t = unwrap_or (option_map (λ p. p.next_inode) t.params) 0
+
 abbrev pub next_name_of : Tables → ℕ
 next_name_of t = unwrap_or (option_map (λ p. p.next_name) t.params) 0
 
@@ -30,62 +34,48 @@ next_name_of t = unwrap_or (option_map (λ p. p.next_name) t.params) 0
 abbrev pub uses_of : Tables → ℕ
 uses_of t = length t.contents + length t.attrs
 
--- parameters without the numbers that come next
+-- parameters without the next numbers of inodes and names
 abbrev pub settings : Parameters → Parameters
-settings p = record p { next_inode = 0; next_name = 0; next_block = 0; next_object = 0 }
+settings p = record p { next_inode = 0; next_name = 0 }
 
--- What the batch of an operation on names and inodes makes of valid tables.
-pub record IsStep (t after : Tables) (whole : Tree) : Type 0 where
-  -- they stay valid, and represent the tree
-  pub valid : IsValid after
-  pub represents : Represents after whole
-  pub unique : HasUniqueNames t → HasUniqueNames after
-  pub named : AreNamed t → AreNamed after
-  -- settings, blocks, objects and slots are as before
+-- What an operation on names and inodes leaves alone: settings, generations, blocks, objects and slots with their next numbers. No
+-- next number falls, so no number is given twice.
+pub record LeavesRest (t after : Tables) : Type 0 where
   pub params : option_map settings after.params ≡ option_map settings t.params
+  pub next_inode : next_inode_of t ≤ next_inode_of after
+  pub next_name : next_name_of t ≤ next_name_of after
   pub inode_blocks : after.inode_blocks ≡ t.inode_blocks
   pub blocks : after.blocks ≡ t.blocks
   pub objects : after.objects ≡ t.objects
   pub slots : after.slots ≡ t.slots
-  -- at most one more name is drawn and used
-  pub names : next_name_of after ≤ next_name_of t + 1
-  pub uses : uses_of after ≤ uses_of t + 1
 
--- the name of which an operation makes one more use
-abbrev pub name_used : Op → Option (List ℕ)
-name_used (ops.Create parent name mode uid gid) = Some name
-name_used _ = None
+-- at most so many names more are drawn, and so many more used
+pub record IsSmall (drawn : ℕ) (t after : Tables) : Type 0 where
+  pub names : next_name_of after ≤ next_name_of t + drawn
+  pub uses : uses_of after ≤ uses_of t + drawn
+
+-- What the batch of an operation on names and inodes makes of valid tables: they stay valid, and represent the next tree.
+pub record IsStep (t after : Tables) (next : Tree) (drawn : ℕ) : Type 0 where
+  pub valid : IsValid after
+  pub represents : Represents after next
+  pub unique : HasUniqueNames t → HasUniqueNames after
+  pub named : AreNamed t → AreNamed after
+  pub rest : LeavesRest t after
+  pub small : IsSmall drawn t after
 
 -- a name is needed, and its count or its id would not be below 2^62
-abbrev pub IsWorn : Tables → Op → Type 0
-IsWorn t op = elim (name_used op) [ Some name ↦ raised t name ≡ None | None ↦ ⊥ ]
-
--- operations that change no row, where no file is kept by handles alone
-abbrev pub keeps_rows : Op → Bool
-keeps_rows (ops.Getattr inode) = true
-keeps_rows (ops.Open inode) = true
-keeps_rows (ops.Release handle) = true
-keeps_rows (ops.Read handle offset count) = true
-keeps_rows (ops.Write handle offset bytes) = length bytes == 0
-keeps_rows ops.Statfs = true
-keeps_rows ops.Leave = true
-keeps_rows _ = false
-
--- operations that close handles
-abbrev pub closes_handles : Op → Bool
-closes_handles (ops.Release handle) = true
-closes_handles ops.Leave = true
-closes_handles _ = false
+abbrev pub IsWorn : Tables → Tree → Op → Type 0
+IsWorn t whole op = elim (name_used whole op) [ Some name ↦ raised t name ≡ None | None ↦ ⊥ ]
 
 -- A refusal is that of the first check that fails. Where none fails, the name that is needed is worn, or the reply is the tree's,
 -- and after the batch the tables represent the tree's next.
 abbrev pub IsPlanOf : Tables → Tree → ℕ → Op → ℕ → Plan → Type 0
 IsPlanOf t whole pass op now (plans.Refuse errno) = first_failure (checks whole pass op) ≡ Some errno.0
-IsPlanOf t whole pass op now plans.Worn = (first_failure (checks whole pass op) ≡ None) × IsWorn t op
+IsPlanOf t whole pass op now plans.Worn = (first_failure (checks whole pass op) ≡ None) × IsWorn t whole op
 IsPlanOf t whole pass op now (plans.Commit batch reply drop) =
     (first_failure (checks whole pass op) ≡ None) × (reply ≡ success whole pass op now)
-    × IsStep t (tables_after batch t) (effect whole pass op now) × ((length batch == 0) ≡ keeps_rows op) × (drop ≡ [])
-    × (IsWorn t op → ⊥)
+    × IsStep t (tables_after batch t) (effect whole pass op now) (names_drawn whole op) × ((length batch == 0) ≡ keeps_rows whole pass op) × (drop ≡ [])
+    × (IsWorn t whole op → ⊥)
 
 -- a reply by the tree's rules, which a fault and a lost block are not
 abbrev pub is_by_rules : Reply → Bool

@@ -135,8 +135,7 @@ fn params_after(changes: &[Change], params: Option<Params>) -> Option<Params>
 
 /// The row of the keeper with these bytes.
 fn known_row<K: Keeper>(keeper: &mut K, name: &ByteList) -> Result<Option<NameRow>, KeeperFault>
-    requires { IfTold (K.told keeper.old) IsOrdered }
-    ensures row { IfOk result (λ r. IfTold (K.told keeper.old) (λ t. r ≡ name_of_bytes t name.now)) }
+    ensures row { IfOk result (λ r. IfTold (K.told keeper.old) (λ t. IsOrdered t → r ≡ name_of_bytes t name.now)) }
     ensures same { K.told keeper.new ≡ K.told keeper.old }
     ensures cause { HasCause (K.faults keeper.old) (K.faults keeper.new) (has_failed result) }
 {
@@ -154,10 +153,9 @@ pub fn name_up<K: Keeper>(
     batch: &mut Batch,
     name: &ByteList,
 ) -> Result<Option<u64>, KeeperFault>
-    requires text { IsText 255 name.now }
-    requires ordered { IfTold (K.told keeper.old) IsOrdered }
-    requires unique { IfTold (K.told keeper.old) (StaysUnique batch.old) }
-    ensures raised { IfOk result (λ id. IfTold (K.told keeper.old) (λ t. IsRaised (raised (tables_after batch.old t) name.now) batch.old id batch.new)) }
+    requires { IsText 255 name.now }
+    ensures raised { IfOk result (λ id. IfTold (K.told keeper.old) (λ t. IsOrdered t → StaysUnique batch.old t
+        → IsRaised (raised (tables_after batch.old t) name.now) batch.old id batch.new)) }
     ensures id { IfOk result (λ id. IfSome id IsId) }
     ensures same { K.told keeper.new ≡ K.told keeper.old }
     ensures cause { HasCause (K.faults keeper.old) (K.faults keeper.new) (has_failed result) }
