@@ -15,7 +15,7 @@ use Rattle.ref_counts.specs.Names.{Raised}
 use Rattle.ref_counts.specs.Plans.{IsStep, AreNamed, settings}
 use Rattle.entry_rows.specs.Creation.{new_file_row, touched_row, creation}
 use Rattle.entry_rows.proofs.Added.{added}
-use Rattle.entry_rows.proofs.CreatedValid.{IsCreation, added_to, after_creation, created_valid, created_unique, created_names, created_uses}
+use Rattle.entry_rows.proofs.CreatedValid.{IsCreation, added_to, after_creation, created_valid, created_unique, created_names, created_next_name, created_next_inode, created_uses}
 use Rattle.entry_rows.proofs.CreatedShape.{created_represents}
 
 -- some entry names the inode
@@ -41,7 +41,7 @@ module _ (t : Tables) (p : Parameters) (directory new : Inode) (more : Raised) (
 
 pub created_step : (t : Tables) (whole : Tree) (p : Parameters) (directory : Inode) (more : Raised) (name : List ℕ) (pass mode uid gid now : ℕ)
     → IsCreation t p directory (new_file_row p.next_inode mode uid gid now) more name → Represents t whole
-    → IsStep t (tables_after (creation p directory more (new_file_row p.next_inode mode uid gid now) now) t) (with_new_file whole pass directory.id name (new_file mode uid gid now) now)
+    → IsStep t (tables_after (creation p directory more (new_file_row p.next_inode mode uid gid now) now) t) (with_new_file whole pass directory.id name (new_file mode uid gid now) now) 1
 created_step t whole p directory more name pass mode uid gid now is same =
     let new : Inode = new_file_row p.next_inode mode uid gid now in
     let back : touched_after t p directory new more name now is ≡ batch_after t p directory new more name now is = sym (batch_is t p directory new more name now is) in
@@ -50,11 +50,14 @@ created_step t whole p directory more name pass mode uid gid now is same =
       represents = created_represents t whole p directory more name pass mode uid gid now is same;
       unique = λ unique. created_unique t p directory new more name now is;
       named = λ named. subst (λ (x : Tables). AreNamed x) back (named_after t p directory new more name now is named);
-      params = subst (λ (x : Tables). option_map settings x.params ≡ option_map settings t.params) back (sym (ap (option_map settings) is.params));
-      inode_blocks = sym (ap (λ (x : Tables). x.inode_blocks) back);
-      blocks = sym (ap (λ (x : Tables). x.blocks) back);
-      objects = sym (ap (λ (x : Tables). x.objects) back);
-      slots = sym (ap (λ (x : Tables). x.slots) back);
-      names = created_names t p directory new more name now is;
-      uses = created_uses t p directory new more name now is;
+      rest = record {
+        params = subst (λ (x : Tables). option_map settings x.params ≡ option_map settings t.params) back (sym (ap (option_map settings) is.params));
+        next_inode = created_next_inode t p directory new more name now is;
+        next_name = created_next_name t p directory new more name now is;
+        inode_blocks = sym (ap (λ (x : Tables). x.inode_blocks) back);
+        blocks = sym (ap (λ (x : Tables). x.blocks) back);
+        objects = sym (ap (λ (x : Tables). x.objects) back);
+        slots = sym (ap (λ (x : Tables). x.slots) back);
+      };
+      small = record { names = created_names t p directory new more name now is; uses = created_uses t p directory new more name now is };
     }

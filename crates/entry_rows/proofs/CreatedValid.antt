@@ -16,7 +16,7 @@ use Rattle.s3_rows.proofs.Batched.{joined}
 use Rattle.s3_rows.proofs.Replacing.{replaced_valid}
 use Rattle.tree_rows.proofs.Listed.{is_entry}
 use Rattle.ref_counts.specs.Names.{Raised, raised}
-use Rattle.ref_counts.specs.Plans.{next_name_of, uses_of}
+use Rattle.ref_counts.specs.Plans.{next_inode_of, next_name_of, uses_of}
 use Rattle.entry_rows.specs.Creation.{touched_row, with_drawn, creation}
 use Rattle.entry_rows.proofs.Inserted.{length-put_new}
 use Rattle.entry_rows.proofs.NameUsed.{is_below, Used, is_used}
@@ -93,6 +93,19 @@ created_names t p directory new more name now is =
     let used : Used t p more name = used_of t p directory new more name is in
     let next : next_name_of t ≡ p.next_name = ap (λ (found : Option Parameters). unwrap_or (option_map (λ q. q.next_name) found) 0) is.params in
     subst (λ x. next_name_of x ≤ next_name_of t + 1) (sym (after_creation t p directory new more name now is)) (subst (λ n. used.next ≤ n + 1) (sym next) used.used.most)
+
+pub created_next_name : (t : Tables) (p : Parameters) (directory new : Inode) (more : Raised) (name : List ℕ) (now : ℕ) → IsCreation t p directory new more name
+    → next_name_of t ≤ next_name_of (tables_after (creation p directory more new now) t)
+created_next_name t p directory new more name now is =
+    let used : Used t p more name = used_of t p directory new more name is in
+    let next : next_name_of t ≡ p.next_name = ap (λ (found : Option Parameters). unwrap_or (option_map (λ q. q.next_name) found) 0) is.params in
+    subst (λ x. next_name_of t ≤ next_name_of x) (sym (after_creation t p directory new more name now is)) (subst (λ n. n ≤ used.next) (sym next) used.used.least)
+
+pub created_next_inode : (t : Tables) (p : Parameters) (directory new : Inode) (more : Raised) (name : List ℕ) (now : ℕ) → IsCreation t p directory new more name
+    → next_inode_of t ≤ next_inode_of (tables_after (creation p directory more new now) t)
+created_next_inode t p directory new more name now is =
+    let next : next_inode_of t ≡ p.next_inode = ap (λ (found : Option Parameters). unwrap_or (option_map (λ q. q.next_inode) found) 0) is.params in
+    subst (λ x. next_inode_of t ≤ next_inode_of x) (sym (after_creation t p directory new more name now is)) (omega (arith, next))
 
 pub created_uses : (t : Tables) (p : Parameters) (directory new : Inode) (more : Raised) (name : List ℕ) (now : ℕ) → IsCreation t p directory new more name
     → uses_of (tables_after (creation p directory more new now) t) ≤ uses_of t + 1

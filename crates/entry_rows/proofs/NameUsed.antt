@@ -47,6 +47,7 @@ pub record NameIsUsed (t : Tables) (next : ℕ) (names : List Name) (id : ℕ) (
   pub below : IsTrue (list_all (is_below after) names)
   pub unique : IsTrue (differ have_same_bytes names)
   pub most : after ≤ next + 1
+  pub least : next ≤ after
 
 pub same_bytes : (a b : List ℕ) → IsTrue (is_eq (bytes_cmp a b)) → a ≡ b
 same_bytes a b is = slice_cmp-IsAntisymmetric nat_cmp-IsAntisymmetric a b (is_equal (bytes_cmp a b) is)
@@ -133,6 +134,7 @@ module _ (t : Tables) (next : ℕ) (name : List ℕ) (v : IsValid t) (unique : H
       below = all_put by_name (is_below next) more_used t.names (found_all (has_bytes name) (is_below next) t.names n free found) free;
       unique = found_unique;
       most = omega arith;
+      least = omega arith;
     }
 
   -- ---- a new row
@@ -206,6 +208,7 @@ module _ (t : Tables) (next : ℕ) (name : List ℕ) (v : IsValid t) (unique : H
           (all_pass (is_below next) (is_below (next + 1)) (λ x less. lt-ltb x.id (next + 1) (omega (arith, ltb-true x.id next less))) t.names free);
       unique = new_unique;
       most = omega arith;
+      least = omega arith;
     }
 
 -- ---- the changes of one more use

@@ -19,5 +19,5 @@ pub fn new_files_are_steps()
     ensures { (t : Tables) (whole : Tree) (p : Parameters) (directory : Inode) (more : Raised) (pass parent mode uid gid now : ℕ) (name : List ℕ)
         → IsValid t → HasUniqueNames t → Represents t whole → t.params ≡ Some p → inode_at t parent ≡ Some directory
         → first_failure (checks whole pass (ops.Create parent name mode uid gid)) ≡ None → raised (with_drawn p t) name ≡ Some more
-        → IsStep t (tables_after (creation p directory more (new_file_row p.next_inode mode uid gid now) now) t) (effect whole pass (ops.Create parent name mode uid gid) now) }
+        → IsStep t (tables_after (creation p directory more (new_file_row p.next_inode mode uid gid now) now) t) (effect whole pass (ops.Create parent name mode uid gid) now) 1 }
 {}

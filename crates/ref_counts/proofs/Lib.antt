@@ -1,3 +1,5 @@
 pub mod Named
 pub mod Numbers
 pub mod Overlay
+pub mod Raised
+pub mod Told

@@ -1,8 +1,7 @@
 -- When the plan of an operation is right: the tree's own refusal, or a batch after which tables represent the tree's next.
-use Rattle.std.specs.Prelude.{◌≡◌, ℕ, ◌+◌, ◌≤◌, ◌==◌, List, [], length, Bool, true, false, not, ◌&&◌, IsTrue, Option, None, Some, option_map, unwrap_or}
+use Rattle.std.specs.Prelude.{◌≡◌, ℕ, ◌+◌, ◌≤◌, ◌==◌, [], length, Bool, true, false, not, ◌&&◌, IsTrue, None, Some, option_map, unwrap_or}
 use Rattle.std.specs.List.{list_all}
 use Rattle.op_frames.specs.declared.operation.Op.{Op}
-use Rattle.op_frames.specs.declared.operation.Op.TheVariants as ops
 use Rattle.op_frames.specs.declared.reply.Reply.{Reply}
 use Rattle.op_frames.specs.declared.reply.Reply.TheVariants as replies
 use Rattle.op_frames.specs.Answers.{has_short_data}

@@ -1,10 +1,9 @@
 //! Reference counts that change together with the rows that name others: each call reads a row as the keeper would hold it
 //! after the batch so far, and adds changes to the batch. Beside them stands what the plans of operations share: open handles,
-//! the attributes of a row, the numbers of errors, and the plan itself.
+//! the attributes of a row, and the plan itself.
 #![tactic(auto)]
 
 mod attr;
-pub mod errno;
 mod handles;
 mod names;
 mod plan;

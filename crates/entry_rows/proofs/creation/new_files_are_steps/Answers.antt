@@ -10,5 +10,5 @@ use Rattle.entry_rows.proofs.creation.new_files_are_steps.Goals as goal
 pub returns : goal.returns
 returns c t whole p directory more pass parent mode uid gid now name valid unique same made there passes used =
     let found = allowed t whole p directory more pass parent mode uid gid now name valid unique same made there passes used in
-    subst (λ x. IsStep t (tables_after (creation p directory more (new_file_row p.next_inode mode uid gid now) now) t) (with_new_file whole pass x name (new_file mode uid gid now) now)) found.1
+    subst (λ x. IsStep t (tables_after (creation p directory more (new_file_row p.next_inode mode uid gid now) now) t) (with_new_file whole pass x name (new_file mode uid gid now) now) 1) found.1
     (created_step t whole p directory more name pass mode uid gid now found.0 same)
