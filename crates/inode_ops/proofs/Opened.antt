@@ -1,23 +1,24 @@
 -- Plans of Open, Release and Leave.
-use Rattle.std.proofs.Common.{◌≡◌, ◌<◌, ◌^◌, ℕ, ◌+◌, List, [], ◌∷◌, Bool, true, false, cond, Option, None, Some, refl, sym, ap, ◌∙◌, subst, arith, eq-eqb}
-use Rattle.std.specs.Prelude.{IsTrue, not, ◌&&◌, ◌||◌, ◌==◌, nat_le, count_by, sum_by, filter, map, option_map, option_and_then}
+use Rattle.std.proofs.Common.{◌≡◌, ◌^◌, ℕ, ◌+◌, List, [], ◌∷◌, Bool, true, false, cond, Option, None, Some, Result, Ok, Err, refl, sym, ap, ◌∙◌, subst, arith, eq-eqb}
+use Rattle.std.specs.Prelude.{IsTrue, not, ◌&&◌, ◌||◌, ◌==◌, nat_le, count_by, sum_by, filter, map, option_map, option_and_then, IfOk}
 use Rattle.std.specs.Map.{lookup}
 use Rattle.std.specs.Ordering.{nat_cmp}
 use Rattle.std.specs.BTreeMap.{is_at}
 use Rattle.std.specs.List.{list_all, list_any, AllByRecursion}
 use Rattle.std.specs.Cmp.{nat_cmp_total}
 use Rattle.std.proofs.lemmas.List.Sums.{sum_by-cons}
-use Rattle.s3_base.specs.declared.node_kind.Kind.{Kind}
-use Rattle.s3_base.specs.declared.node_kind.Kind.TheVariants as kinds
+use Rattle.s3_base.specs.Errors.{ebadf, enospc}
+use Rattle.s3_base.specs.declared.errors.Errno.{Errno}
 use Rattle.op_frames.specs.declared.operation.Op.TheVariants as ops
 use Rattle.op_frames.specs.declared.reply.Reply.{Reply}
 use Rattle.op_frames.specs.declared.reply.Reply.TheVariants as replies
 use Rattle.plain_tree.specs.Tree as tree
 use Rattle.plain_tree.specs.Tree.{Node, Handle, Tree, root, node_at, own_handle, handle_of, without_node, without_handle}
-use Rattle.plain_tree.specs.Attributes.{kind_of, names_in, attr_of}
-use Rattle.plain_tree.specs.Entries.{entries_of, is_named, is_open, lives, settled}
-use Rattle.plain_tree.specs.Files.{bytes_of, file_at, inode_of}
-use Rattle.plain_tree.specs.Checks.{fails_with, first_failure, node_check, file_check, hand_check, open_check}
+use Rattle.plain_tree.specs.Attributes.{names_in, attr_of}
+use Rattle.plain_tree.specs.Classes.{keeps_rows}
+use Rattle.plain_tree.specs.Entries.{entries_of, is_named, is_open, lives}
+use Rattle.plain_tree.specs.Files.{file_at, inode_of}
+use Rattle.plain_tree.specs.Checks.{fails_with, first_failure, node_check, file_check, open_check}
 use Rattle.plain_tree.specs.Operations.{checks, effect}
 use Rattle.s3_rows.specs.Rows.{Inode}
 use Rattle.s3_rows.specs.Keyed.{has_key}
@@ -26,103 +27,33 @@ use Rattle.s3_rows.specs.Selections.{inode_at}
 use Rattle.s3_rows.specs.Validity.{IsValid}
 use Rattle.s3_rows.proofs.Passing.{both, first, second}
 use Rattle.s3_rows.proofs.Finding.{found_all}
-use Rattle.ref_counts.specs.declared.plan.Plan.TheVariants as plans
+use Rattle.op_checks.specs.Checks.{Checks}
+use Rattle.op_checks.specs.Rows.{row_check, file_row_check, open_row_check}
+use Rattle.op_checks.proofs.Nodes.{node_there, node_check-row, file_check-row, open_check-row}
 use Rattle.ref_counts.specs.Handles.{OpenHandles, HasHandles, inode_open}
-use Rattle.ref_counts.specs.Plans.{IsPlanOf, IsStep, AreNamed}
+use Rattle.ref_counts.specs.Plans.{IsPlanOf, AreNamed}
 use Rattle.tree_rows.specs.Attrs.{attr_of_row}
-use Rattle.tree_rows.specs.Shapes.{ContentShape, Regular, Directory, Link, NodeShape, TreeShape, shape_of_content, shape_of_node, node_of_row, Represents}
+use Rattle.tree_rows.specs.Shapes.{NodeShape, TreeShape, shape_of_node, node_of_row, Represents}
 use Rattle.tree_rows.proofs.Attributed.{attr_alike}
 use Rattle.tree_rows.proofs.Counting.{self_found}
 use Rattle.tree_rows.proofs.Rooted.{link_count_is}
-use Rattle.tree_rows.proofs.Whole.{content_of_kind}
-use Rattle.inode_ops.proofs.Planned.{idle, absent, present}
-
--- ---- kinds
-
--- the refusal by which no handle is open on an inode of this kind
-abbrev pub not_open : Kind → Option ℕ
-not_open kinds.Directory = Some 9
-not_open kinds.Regular = None
-not_open kinds.Link = Some 9
-
-abbrev kind_of_shape : ContentShape → Kind
-kind_of_shape (Directory entries) = kinds.Directory
-kind_of_shape (Regular size) = kinds.Regular
-kind_of_shape (Link target) = kinds.Link
-
-abbrev not_opened : Kind → Option ℕ
-not_opened kinds.Directory = Some 21
-not_opened kinds.Regular = None
-not_opened kinds.Link = Some 22
-
-pub file_check_is : (node : Node) (kind : Kind) → kind_of node.content ≡ kind → file_check (Some node) ≡ not_opened kind
-file_check_is node kind is = by_content node.content ∙ ap not_opened is
-  where
-    by_content : (content : tree.Content) → elim content [ tree.Regular bytes ↦ None | tree.Directory entries ↦ Some 21 | tree.Link target ↦ Some 22 ] ≡ not_opened (kind_of content)
-    by_content (tree.Regular bytes) = refl
-    by_content (tree.Directory entries) = refl
-    by_content (tree.Link target) = refl
-
-kind_alike : (content : tree.Content) → kind_of content ≡ kind_of_shape (shape_of_content content)
-kind_alike (tree.Regular bytes) = refl
-kind_alike (tree.Directory entries) = refl
-kind_alike (tree.Link target) = refl
-
-open_check_is : (content : tree.Content) → open_check (bytes_of content) ≡ not_open (kind_of content)
-open_check_is (tree.Regular bytes) = refl
-open_check_is (tree.Directory entries) = refl
-open_check_is (tree.Link target) = refl
-
-kind_is : (t : Tables) (r : Inode) (kind : Kind) → kind_of_shape (content_of_kind t r kind) ≡ kind
-kind_is t r kinds.Directory = refl
-kind_is t r kinds.Regular = refl
-kind_is t r kinds.Link = refl
-
-kind_there : (t : Tables) (r : Inode) (node : Node) → shape_of_node node ≡ node_of_row t r → kind_of node.content ≡ r.kind
-kind_there t r node shape =
-    let content : shape_of_content node.content ≡ content_of_kind t r r.kind = ap (λ (s : NodeShape). s.content) shape in
-    kind_alike node.content ∙ ap kind_of_shape content ∙ kind_is t r r.kind
+use Rattle.inode_ops.specs.Answers.{answer_plan, IsReplyOf}
+use Rattle.inode_ops.proofs.Planned.{idle_planned, from_row}
 
 -- ---- open
 
-pub open_missing : (t : Tables) (whole : Tree) (pass x now : ℕ) → Represents t whole → inode_at t x ≡ None → IsPlanOf t whole pass (ops.Open x) now (plans.Refuse (record { 0 = 2 }))
-open_missing t whole pass x now same none = ap (λ (n : Option Node). first_failure (node_check n ∷ file_check n ∷ hand_check whole ∷ [])) (absent t whole same x none)
-
-module _ (t : Tables) (whole : Tree) (same : Represents t whole) (pass x : ℕ) (r : Inode) (is : inode_at t x ≡ Some r) (check : Option ℕ)
-    (own : (node : Node) → kind_of node.content ≡ r.kind → file_check (Some node) ≡ check) where
-  opens : first_failure (checks whole pass (ops.Open x)) ≡ first_failure (check ∷ hand_check whole ∷ [])
-  opens =
-      let found = present t whole same x r is in
-      let node : Node = found.0 in
-      ap (λ (n : Option Node). first_failure (node_check n ∷ file_check n ∷ hand_check whole ∷ [])) found.1
-      ∙ ap (λ (c : Option ℕ). first_failure (c ∷ hand_check whole ∷ [])) (own node (kind_there t r node found.2))
-
-  pub open_other : (now errno : ℕ) → check ≡ Some errno → IsPlanOf t whole pass (ops.Open x) now (plans.Refuse (record { 0 = errno }))
-  open_other now errno other = opens ∙ ap (λ (c : Option ℕ). first_failure (c ∷ hand_check whole ∷ [])) other
-
-  hand_is : (h : OpenHandles) → HasHandles h whole → (full : Bool) → nat_le (2 ^ 62) h.next ≡ full → hand_check whole ≡ fails_with 28 full
-  hand_is h has full is_full = ap (λ n. fails_with 28 (nat_le (2 ^ 62) n)) has.0 ∙ ap (fails_with 28) is_full
-
-  checked : check ≡ None → first_failure (checks whole pass (ops.Open x)) ≡ first_failure (hand_check whole ∷ [])
-  checked file = opens ∙ ap (λ (c : Option ℕ). first_failure (c ∷ hand_check whole ∷ [])) file
-
-  pub open_full : (now : ℕ) (h : OpenHandles) → HasHandles h whole → check ≡ None → nat_le (2 ^ 62) h.next ≡ true → IsPlanOf t whole pass (ops.Open x) now (plans.Refuse (record { 0 = 28 }))
-  open_full now h has file full = checked file ∙ ap (λ (c : Option ℕ). first_failure (c ∷ [])) (hand_is h has true full)
-
-  pub open_planned : (now : ℕ) (h : OpenHandles) → IsValid t → HasHandles h whole → check ≡ None → nat_le (2 ^ 62) h.next ≡ false → r.refcount < 2 ^ 62
-      → IsPlanOf t whole pass (ops.Open x) now (plans.Commit [] (replies.Opened h.next (attr_of_row r)) [])
-  open_planned now h v has file free below =
-      let found = present t whole same x r is in
-      let reply : replies.Opened whole.next_handle (attr_of whole x found.0) ≡ replies.Opened h.next (attr_of_row r) = λ i. replies.Opened (has.0 i) (attr_alike t whole x r found.0 v same is below found.2 i) in (
-        checked file ∙ ap (λ (c : Option ℕ). first_failure (c ∷ [])) (hand_is h has false free),
-        sym
-            (ap (λ (n : Option Node). let reply : Reply = elim n [ Some node ↦ replies.Opened whole.next_handle (attr_of whole x node) | None ↦ replies.Done ] in reply) found.1
-            ∙ reply),
-        idle t (effect whole pass (ops.Open x) now) v same,
-        refl,
-        refl,
-        λ worn. worn,
-      )
+pub open_planned : (t : Tables) (whole : Tree) (pass x now : ℕ) (h : OpenHandles) (found : Option Inode) (replied : Result Reply Errno) → IsValid t → Represents t whole → HasHandles h whole → found ≡ inode_at t x
+    → Checks replied (first_failure (row_check found ∷ file_row_check found ∷ fails_with enospc (nat_le (2 ^ 62) h.next) ∷ []))
+    → IfOk replied (IsReplyOf found (λ r. replies.Opened h.next (attr_of_row r))) → IsPlanOf t whole pass (ops.Open x) now (answer_plan replied)
+open_planned t whole pass x now h found replied v same has is checked made =
+    let node : node_check (node_at whole x) ≡ row_check found = node_check-row t whole same x ∙ ap row_check (sym is) in
+    let file : file_check (node_at whole x) ≡ file_row_check found = file_check-row t whole same x ∙ ap file_row_check (sym is) in
+    idle_planned t whole pass (ops.Open x) now replied _ v same checked (λ i. first_failure (node i ∷ file i ∷ fails_with enospc (nat_le (2 ^ 62) (has.0 i)) ∷ []))
+    (from_row replied found (inode_at t x) _ _ is made (λ r there few.
+    let seen = node_there t whole same x r there in
+    let reply : replies.Opened whole.next_handle (attr_of whole x seen.0) ≡ replies.Opened h.next (attr_of_row r) = λ i. replies.Opened (has.0 i) (attr_alike t whole x r seen.0 v same there few seen.2 i) in
+    sym (ap (λ (n : Option Node). elim n as (λ _. Reply) [ Some node ↦ replies.Opened whole.next_handle (attr_of whole x node) | None ↦ replies.Done ]) seen.1 ∙ reply)))
+    refl refl
 
 -- ---- what keeps nodes
 
@@ -185,11 +116,6 @@ module _ (t : Tables) (whole : Tree) (v : IsValid t) (same : Represents t whole)
 
 -- ---- release
 
-pub not_open_other : (kind : Kind) → (kind ≡ kinds.Regular → ⊥) → not_open kind ≡ Some 9
-not_open_other kinds.Directory other = refl
-not_open_other kinds.Regular other = absurd (other refl)
-not_open_other kinds.Link other = refl
-
 -- the handle that has a number, among the tree's handles
 module _ (h : OpenHandles) (whole : Tree) (has : HasHandles h whole) (pass number : ℕ) where
   listed : option_map (λ (x : Handle). x.inode) (handle_of whole pass number) ≡ inode_open h pass number
@@ -204,43 +130,41 @@ module _ (h : OpenHandles) (whole : Tree) (has : HasHandles h whole) (pass numbe
           let own : inode ≡ x.inode = cc same in
           (x, refl, own)
 
-module _ (t : Tables) (whole : Tree) (pass number now : ℕ) where
-  module _ (same : Represents t whole) (handle : Handle) (has : handle_of whole pass number ≡ Some handle) where
-    opened_file : first_failure (checks whole pass (ops.Release number)) ≡ first_failure (open_check (file_at whole handle.inode) ∷ [])
-    opened_file = ap (λ (h : Option Handle). first_failure (open_check (option_and_then (λ x. file_at whole x.inode) h) ∷ [])) has
+-- no open handle of the pass has the number
+pub not_listed : (h : OpenHandles) (whole : Tree) → HasHandles h whole → (pass number now : ℕ) (found : Option ℕ) → found ≡ inode_open h pass number → ((x : ℕ) → found ≡ Some x → ⊥)
+    → first_failure (checks whole pass (ops.Release number)) ≡ Some ebadf
+not_listed h whole has pass number now (Some x) is none = absurd (none x refl)
+not_listed h whole has pass number now None is none = by_handle (handle_of whole pass number) (listed h whole has pass number ∙ sym is)
+  where
+    by_handle : (x : Option Handle) → option_map (λ (y : Handle). y.inode) x ≡ None → first_failure (open_check (option_and_then (λ y. file_at whole y.inode) x) ∷ []) ≡ Some ebadf
+    by_handle None same = refl
+    by_handle (Some y) same = absurd (cc same)
 
-    pub release_missing : inode_at t handle.inode ≡ None → IsPlanOf t whole pass (ops.Release number) now (plans.Refuse (record { 0 = 9 }))
-    release_missing none =
-        opened_file ∙ ap (λ (n : Option Node). first_failure (open_check (option_and_then (λ node. bytes_of node.content) n) ∷ [])) (absent t whole same handle.inode none)
+-- the check of a handle that the pass has, from the row of its inode
+pub open_check-row_of : (t : Tables) (whole : Tree) (pass number : ℕ) (handle : Handle) (found : Option Inode) → Represents t whole → handle_of whole pass number ≡ Some handle → found ≡ inode_at t handle.inode
+    → first_failure (checks whole pass (ops.Release number)) ≡ first_failure (open_row_check found ∷ [])
+open_check-row_of t whole pass number handle found same has is =
+    ap (λ (h : Option Handle). first_failure (open_check (option_and_then (λ x. file_at whole x.inode) h) ∷ [])) has
+    ∙ ap (λ c. first_failure (c ∷ [])) (open_check-row t whole same handle.inode ∙ ap open_row_check (sym is))
 
-    by_kind : (r : Inode) → inode_at t handle.inode ≡ Some r → first_failure (checks whole pass (ops.Release number)) ≡ first_failure (not_open r.kind ∷ [])
-    by_kind r is =
-        let found = present t whole same handle.inode r is in
-        let node : Node = found.0 in
-        opened_file
-        ∙ ap (λ (n : Option Node). first_failure (open_check (option_and_then (λ x. bytes_of x.content) n) ∷ [])) found.1
-        ∙ ap (λ (c : Option ℕ). first_failure (c ∷ [])) (open_check_is node.content ∙ ap not_open (kind_there t r node found.2))
+module _ (t : Tables) (whole : Tree) (pass number now : ℕ) (v : IsValid t) (same : Represents t whole) (named : AreNamed t) (handle : Handle) (has : handle_of whole pass number ≡ Some handle) where
+  abbrev after : Tree
+  after = without_handle number whole
 
-    pub release_other : (r : Inode) → inode_at t handle.inode ≡ Some r → not_open r.kind ≡ Some 9 → IsPlanOf t whole pass (ops.Release number) now (plans.Refuse (record { 0 = 9 }))
-    release_other r is other = by_kind r is ∙ ap (λ (c : Option ℕ). first_failure (c ∷ [])) other
+  -- nothing goes with a handle
+  pub stays_released : (r : Inode) → inode_at t handle.inode ≡ Some r → IsTrue (keeps_rows whole pass (ops.Release number))
+  stays_released r is = ap (λ (h : Option Handle). lives after (inode_of h)) has ∙ stays t whole v same named handle.inode r (is_open after handle.inode) is
 
-    -- nothing goes with a handle
-    pub released_is : (r : Inode) → IsValid t → AreNamed t → inode_at t handle.inode ≡ Some r → effect whole pass (ops.Release number) now ≡ without_handle number whole
-    released_is r v named is =
-        let closed : Tree = without_handle number whole in
-        let lives_on : IsTrue (lives closed handle.inode) = stays t whole v same named handle.inode r (is_open closed handle.inode) is in
-        ap (λ (h : Option Handle). settled (inode_of h) closed) has ∙ ap (λ b. cond b closed (without_node handle.inode closed)) lives_on
+  pub released_is : IsTrue (keeps_rows whole pass (ops.Release number)) → effect whole pass (ops.Release number) now ≡ after
+  released_is lives_on = ap (λ b. cond b after (without_node (inode_of (handle_of whole pass number)) after)) lives_on
 
-    pub release_planned : (r : Inode) → IsValid t → AreNamed t → inode_at t handle.inode ≡ Some r → r.kind ≡ kinds.Regular
-        → IsPlanOf t whole pass (ops.Release number) now (plans.Commit [] replies.Done [])
-    release_planned r v named is file = (
-      by_kind r is ∙ ap (λ (kind : Kind). first_failure (not_open kind ∷ [])) file,
-      refl,
-      subst (λ (after : Tree). IsStep t t after) (sym (released_is r v named is)) (idle t (without_handle number whole) v same),
-      refl,
-      refl,
-      λ worn. worn,
-    )
+  pub release_planned : (found : Option Inode) (replied : Result Reply Errno) → found ≡ inode_at t handle.inode → Checks replied (first_failure (open_row_check found ∷ []))
+      → IfOk replied (λ reply. reply ≡ replies.Done) → IsPlanOf t whole pass (ops.Release number) now (answer_plan replied)
+  release_planned None (Ok reply) is checked made = absurd (cc checked)
+  release_planned (Some r) (Ok reply) is checked made =
+      let lives_on : IsTrue (keeps_rows whole pass (ops.Release number)) = stays_released r (sym is) in
+      idle_planned t whole pass (ops.Release number) now (Ok reply) _ v (subst (Represents t) (sym (released_is lives_on)) same) checked (open_check-row_of t whole pass number handle (Some r) same has is) made (sym lives_on) refl
+  release_planned found (Err errno) is checked made = open_check-row_of t whole pass number handle found same has is ∙ checked
 
 -- ---- leave
 
@@ -254,20 +178,22 @@ all_map p f [] = refl
 all_map p f (x ∷ xs) = ap (λ b. p (f x) && b) (all_map p f xs)
 
 -- nothing goes with the handles of a pass
-pub left_is : (t : Tables) (whole : Tree) (pass now : ℕ) → IsValid t → Represents t whole → AreNamed t
-    → effect whole pass ops.Leave now ≡ record whole { handles = filter (λ (h : ℕ × Handle). not (h.1.pass == pass)) whole.handles }
-left_is t whole pass now v same named =
+pub stays_left : (t : Tables) (whole : Tree) (pass : ℕ) → IsValid t → Represents t whole → AreNamed t → IsTrue (keeps_rows whole pass ops.Leave)
+stays_left t whole pass v same named =
     let closed : Tree = record whole { handles = filter (λ (h : ℕ × Handle). not (h.1.pass == pass)) whole.handles } in
     let number_lives : ℕ → Bool = λ x. lives closed x in
     let of_shape : ℕ × NodeShape → Bool = λ e. number_lives e.0 in
     let shaped : ℕ × Node → ℕ × NodeShape = λ e. (e.0, shape_of_node e.1) in
     let made : Inode → ℕ × NodeShape = λ r. (r.id, node_of_row t r) in
     let rows : IsTrue (list_all (λ (r : Inode). number_lives r.id) t.inodes) = all_stay t whole v same named (is_open closed) t.inodes (self_found by_inode nat_cmp_total t.inodes v.ordered.inodes) in
-    let all : IsTrue (list_all (λ (e : ℕ × Node). number_lives e.0) whole.nodes) =
-    sym (all_map of_shape shaped whole.nodes) ∙ ap (λ (s : TreeShape). list_all of_shape s.nodes) (sym same) ∙ all_map of_shape made t.inodes ∙ rows in
-    ap (λ (nodes : List (ℕ × Node)). record closed { nodes = nodes }) (all_kept (λ (e : ℕ × Node). number_lives e.0) whole.nodes all)
+    sym (all_map of_shape shaped whole.nodes) ∙ ap (λ (s : TreeShape). list_all of_shape s.nodes) (sym same) ∙ all_map of_shape made t.inodes ∙ rows
 
-pub leave_planned : (t : Tables) (whole : Tree) (pass now : ℕ) → IsValid t → Represents t whole → AreNamed t → IsPlanOf t whole pass ops.Leave now (plans.Commit [] replies.Done [])
-leave_planned t whole pass now v same named =
+pub left_is : (whole : Tree) (pass now : ℕ) → IsTrue (keeps_rows whole pass ops.Leave) → effect whole pass ops.Leave now ≡ record whole { handles = filter (λ (h : ℕ × Handle). not (h.1.pass == pass)) whole.handles }
+left_is whole pass now all =
     let closed : Tree = record whole { handles = filter (λ (h : ℕ × Handle). not (h.1.pass == pass)) whole.handles } in
-    (refl, refl, subst (λ (after : Tree). IsStep t t after) (sym (left_is t whole pass now v same named)) (idle t closed v same), refl, refl, λ worn. worn)
+    ap (λ (nodes : List (ℕ × Node)). record closed { nodes = nodes }) (all_kept (λ (e : ℕ × Node). lives closed e.0) whole.nodes all)
+
+pub leave_planned : (t : Tables) (whole : Tree) (pass now : ℕ) → IsValid t → Represents t whole → AreNamed t → IsPlanOf t whole pass ops.Leave now (answer_plan (Ok replies.Done))
+leave_planned t whole pass now v same named =
+    let all : IsTrue (keeps_rows whole pass ops.Leave) = stays_left t whole pass v same named in
+    idle_planned t whole pass ops.Leave now (Ok replies.Done) None v (subst (Represents t) (sym (left_is whole pass now all)) same) refl refl refl (sym all) refl

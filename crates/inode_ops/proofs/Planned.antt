@@ -1,13 +1,16 @@
 -- Plans that are right.
-use Rattle.std.proofs.Common.{◌≡◌, ◌<◌, ◌≤◌, ◌^◌, ℕ, List, [], ◌∷◌, Bool, true, false, cond, Option, None, Some, refl, sym, ap, ◌∙◌, subst, arith, ltb-true, lt-ltb, leb-true, le-leb}
-use Rattle.std.specs.Prelude.{IsTrue, ◌==◌, not, nat_lt, nat_le, option_map}
+use Rattle.std.proofs.Common.{◌≡◌, ◌<◌, ◌^◌, ℕ, List, [], ◌∷◌, Bool, true, false, cond, Option, None, Some, Result, Ok, Err, refl, sym, ap, ◌∙◌, subst, arith}
+use Rattle.std.specs.Prelude.{IsTrue, ◌==◌, not, IfOk}
 use Rattle.std.specs.Cmp.{nat_cmp_total, tied_itself}
 use Rattle.std.specs.Ordering.{is_eq}
+use Rattle.s3_base.specs.declared.errors.Errno.{Errno}
 use Rattle.op_frames.specs.declared.operation.Op.{Op}
 use Rattle.op_frames.specs.declared.operation.Op.TheVariants as ops
+use Rattle.op_frames.specs.declared.reply.Reply.{Reply}
 use Rattle.op_frames.specs.declared.reply.Reply.TheVariants as replies
 use Rattle.plain_tree.specs.Tree.{Node, Tree, node_at, change_node, stamped}
-use Rattle.plain_tree.specs.Checks.{fails_with, first_failure, mode_check, time_check, node_check, lock_check}
+use Rattle.plain_tree.specs.Checks.{first_failure, mode_check, time_check, node_check, lock_check}
+use Rattle.plain_tree.specs.Classes.{keeps_rows, name_used, names_drawn}
 use Rattle.plain_tree.specs.Operations.{checks, effect, success, attr_reply}
 use Rattle.s3_rows.specs.declared.change.Change.TheVariants as changes
 use Rattle.s3_rows.specs.Rows.{Inode}
@@ -19,33 +22,36 @@ use Rattle.s3_rows.proofs.Replacing.{replaced_valid, all_put}
 use Rattle.s3_rows.proofs.Finding.{found_all}
 use Rattle.s3_rows.specs.Keyed.{has_key}
 use Rattle.s3_rows.proofs.Sorting.{row_at-put}
-use Rattle.ref_counts.specs.declared.plan.Plan.TheVariants as plans
 use Rattle.tree_rows.specs.Attrs.{attr_of_row}
 use Rattle.tree_rows.specs.Shapes.{NodeShape, shape_of_node, node_of_row, Represents}
 use Rattle.tree_rows.proofs.Attributed.{attr_is}
-use Rattle.tree_rows.proofs.Replaced.{node_of, replaced_represents}
-use Rattle.tree_rows.proofs.Shaped.{found_alike}
+use Rattle.tree_rows.proofs.Replaced.{replaced_represents}
 use Rattle.tree_rows.proofs.Whole.{number_of}
-use Rattle.s3_rows.specs.Told.{Told, IfTold}
+use Rattle.op_checks.specs.Checks.{Checks}
+use Rattle.op_checks.specs.Rows.{row_check, lock_row_check}
+use Rattle.op_checks.proofs.Nodes.{node_check-row, lock_check-row}
 use Rattle.ref_counts.specs.Names.{raised}
-use Rattle.ref_counts.specs.Plans.{IsPlanOf, IsStep, AreNamed, IsWorn, name_used, keeps_rows}
+use Rattle.ref_counts.specs.Plans.{IsPlanOf, IsStep, LeavesRest, IsSmall, AreNamed, IsWorn}
+use Rattle.inode_ops.specs.Answers.{put_plan, answer_plan, IsChangedRow, IsReplyOf}
 
 -- ---- steps
 
+-- the other tables and all numbers are as before
+same_rest : (t : Tables) (rows : List Inode) → LeavesRest t (record t { inodes = rows })
+same_rest t rows = record { params = refl; next_inode = omega arith; next_name = omega arith; inode_blocks = refl; blocks = refl; objects = refl; slots = refl }
+
+same_small : (t : Tables) (rows : List Inode) (drawn : ℕ) → IsSmall drawn t (record t { inodes = rows })
+same_small t rows drawn = record { names = omega arith; uses = omega arith }
+
 -- nothing is changed
-pub idle : (t : Tables) (whole : Tree) → IsValid t → Represents t whole → IsStep t t whole
-idle t whole v same = record {
+pub idle : (t : Tables) (next : Tree) (drawn : ℕ) → IsValid t → Represents t next → IsStep t t next drawn
+idle t next drawn v same = record {
   valid = v;
   represents = same;
   unique = λ (u : HasUniqueNames t). u;
   named = λ (n : AreNamed t). n;
-  params = refl;
-  inode_blocks = refl;
-  blocks = refl;
-  objects = refl;
-  slots = refl;
-  names = omega arith;
-  uses = omega arith;
+  rest = same_rest t t.inodes;
+  small = same_small t t.inodes drawn;
 }
 
 -- an inode's row is replaced by one of the same count
@@ -55,219 +61,128 @@ replaced_named t r new is count named =
     let own : IsTrue (has_name new) = ap (λ n. not (n == 0)) count ∙ found_all (has_key by_inode new.id) has_name t.inodes r named is in
     all_put by_inode has_name new t.inodes own named
 
-replaced : (t : Tables) (whole : Tree) (r new : Inode) → inode_at t new.id ≡ Some r → new.refcount ≡ r.refcount → IsValid (after_change (changes.PutInode new) t)
-    → Represents (after_change (changes.PutInode new) t) whole → IsStep t (after_change (changes.PutInode new) t) whole
-replaced t whole r new is count valid represents = record {
+pub replaced : (t : Tables) (next : Tree) (drawn : ℕ) (r new : Inode) → inode_at t new.id ≡ Some r → new.refcount ≡ r.refcount → IsValid (after_change (changes.PutInode new) t)
+    → Represents (after_change (changes.PutInode new) t) next → IsStep t (after_change (changes.PutInode new) t) next drawn
+replaced t next drawn r new is count valid represents = record {
   valid = valid;
   represents = represents;
   unique = λ (u : HasUniqueNames t). u;
   named = replaced_named t r new is count;
-  params = refl;
-  inode_blocks = refl;
-  blocks = refl;
-  objects = refl;
-  slots = refl;
-  names = omega arith;
-  uses = omega arith;
+  rest = same_rest t (after_change (changes.PutInode new) t).inodes;
+  small = same_small t (after_change (changes.PutInode new) t).inodes drawn;
 }
 
--- ---- nodes and rows
-
-module _ (t : Tables) (whole : Tree) (same : Represents t whole) (x : ℕ) where
-  -- no row, no node
-  pub absent : inode_at t x ≡ None → node_at whole x ≡ None
-  absent none = by_case (node_at whole x) (found_alike t whole same x ∙ ap (option_map (node_of_row t)) none)
-    where
-      by_case : (found : Option Node) → option_map shape_of_node found ≡ None → found ≡ None
-      by_case None is = refl
-      by_case (Some node) is = absurd (cc is)
-
-  -- a row, and a node of its shape
-  pub present : (r : Inode) → inode_at t x ≡ Some r → (node : Node) × (node_at whole x ≡ Some node) × (shape_of_node node ≡ node_of_row t r)
-  present r is = node_of (node_at whole x) (node_of_row t r) (found_alike t whole same x ∙ ap (option_map (node_of_row t)) is)
-
--- a row is found by its own number too
-at_its_number : (t : Tables) (x : ℕ) (r : Inode) → inode_at t x ≡ Some r → inode_at t r.id ≡ Some r
-at_its_number t x r is = ap (inode_at t) (sym (number_of t x r is)) ∙ is
-
--- ---- getattr
-
-pub getattr_refused : (t : Tables) (whole : Tree) (pass x now : ℕ) → Represents t whole → inode_at t x ≡ None → IsPlanOf t whole pass (ops.Getattr x) now (plans.Refuse (record { 0 = 2 }))
-getattr_refused t whole pass x now same none =
-    (ap (λ (found : Option Node). first_failure (node_check found ∷ [])) (absent t whole same x none))
-
-pub getattr_planned : (t : Tables) (whole : Tree) (pass x now : ℕ) (r : Inode) → IsValid t → Represents t whole → inode_at t x ≡ Some r → r.refcount < 2 ^ 62
-    → IsPlanOf t whole pass (ops.Getattr x) now (plans.Commit [] (replies.Attr (attr_of_row r)) [])
-getattr_planned t whole pass x now r v same is below =
-    let found = present t whole same x r is in
-    let passes : first_failure (checks whole pass (ops.Getattr x)) ≡ None = ap (λ (node : Option Node). first_failure (node_check node ∷ [])) found.1 in
-    (passes, sym (attr_is t whole x r v same is below), idle t whole v same, refl, refl, λ worn. worn)
-
--- ---- a change of one node
-
--- the row of a number after it is put
-put_there : (t : Tables) (new : Inode) → inode_at (after_change (changes.PutInode new) t) new.id ≡ Some new
-put_there t new = row_at-put by_inode nat_cmp_total new.id new t.inodes ∙ ap (λ c. cond (is_eq c) (Some new) (inode_at t new.id)) (tied_itself nat_cmp_total new.id)
-
--- an operation that changes one node, and answers with its attributes, is planned by a new row of the same kind, count and size
 -- an operation that needs no name finds none worn
-never_worn : (t : Tables) (op : Op) → name_used op ≡ None → IsWorn t op → ⊥
-never_worn t op nameless worn =
+never_worn : (t : Tables) (whole : Tree) (op : Op) → name_used whole op ≡ None → IsWorn t whole op → ⊥
+never_worn t whole op nameless worn =
     let none : ⊥ = subst (λ (used : Option (List ℕ)). elim used as (λ _. Type 0) [ Some name ↦ raised t name ≡ None | None ↦ ⊥ ]) nameless worn in
     none
 
-planned : (t : Tables) (whole : Tree) (pass : ℕ) (op : Op) (now : ℕ) (r new : Inode) (f : Node → Node) → IsValid t → Represents t whole → inode_at t new.id ≡ Some r
-    → new.kind ≡ r.kind → new.refcount ≡ r.refcount → new.size ≡ r.size → new.refcount < 2 ^ 62
-    → ((node : Node) → shape_of_node node ≡ node_of_row t r → shape_of_node (f node) ≡ node_of_row t new)
-    → first_failure (checks whole pass op) ≡ None → effect whole pass op now ≡ change_node new.id f whole → success whole pass op now ≡ attr_reply (change_node new.id f whole) new.id
-    → false ≡ keeps_rows op → name_used op ≡ None → IsPlanOf t whole pass op now (plans.Commit (changes.PutInode new ∷ []) (replies.Attr (attr_of_row new)) [])
-planned t whole pass op now r new f v same is kind count size below alike passes does gives changes_rows nameless =
-    let after : Tables = after_change (changes.PutInode new) t in
-    let valid : IsValid after = replaced_valid t r new v is kind count size in
-    let represents : Represents after (change_node new.id f whole) = replaced_represents t whole r new f v.ordered.inodes same is alike in (
-      passes,
-      sym (attr_is after (change_node new.id f whole) new.id new valid represents (put_there t new) below) ∙ sym gives,
-      subst (λ (x : Tree). IsStep t after x) (sym does) (replaced t (change_node new.id f whole) r new is count valid represents),
-      changes_rows,
-      refl,
-      never_worn t op nameless,
-    )
+-- ---- no row is changed
 
--- the checks on a node that is there and not locked
-unlocked : (t : Tables) (whole : Tree) (same : Represents t whole) (x : ℕ) (r : Inode) → inode_at t x ≡ Some r → r.locked ≡ false → (rest : List (Option ℕ))
-    → first_failure (node_check (node_at whole x) ∷ lock_check (node_at whole x) ∷ rest) ≡ first_failure rest
-unlocked t whole same x r is free rest =
-    let found = present t whole same x r is in
-    let node : Node = found.0 in
-    let open_node : node.locked ≡ false = ap (λ (s : NodeShape). s.locked) found.2 ∙ free in
-    ap (λ (n : Option Node). first_failure (node_check n ∷ lock_check n ∷ rest)) found.1
-    ∙ ap (λ b. first_failure (None ∷ fails_with 1 b ∷ rest)) open_node
+-- What checks answered is the plan of an operation that changes no row, where the reply is that of its success.
+pub idle_planned : (t : Tables) (whole : Tree) (pass : ℕ) (op : Op) (now : ℕ) (replied : Result Reply Errno) (check : Option ℕ) → IsValid t → Represents t (effect whole pass op now) → Checks replied check
+    → first_failure (checks whole pass op) ≡ check → IfOk replied (λ reply. reply ≡ success whole pass op now) → true ≡ keeps_rows whole pass op → name_used whole op ≡ None
+    → IsPlanOf t whole pass op now (answer_plan replied)
+idle_planned t whole pass op now (Ok reply) check v same checked own is keeps nameless = (own ∙ checked, is, idle t (effect whole pass op now) (names_drawn whole op) v same, keeps, refl, never_worn t whole op nameless)
+idle_planned t whole pass op now (Err errno) check v same checked own is keeps nameless = own ∙ checked
 
--- and on one that is locked
-is_locked : (t : Tables) (whole : Tree) (same : Represents t whole) (x : ℕ) (r : Inode) → inode_at t x ≡ Some r → r.locked ≡ true → (rest : List (Option ℕ))
-    → first_failure (node_check (node_at whole x) ∷ lock_check (node_at whole x) ∷ rest) ≡ Some 1
-is_locked t whole same x r is shut rest =
-    let found = present t whole same x r is in
-    let node : Node = found.0 in
-    let closed : node.locked ≡ true = ap (λ (s : NodeShape). s.locked) found.2 ∙ shut in
-    ap (λ (n : Option Node). first_failure (node_check n ∷ lock_check n ∷ rest)) found.1
-    ∙ ap (λ b. first_failure (None ∷ fails_with 1 b ∷ rest)) closed
+-- a fact of a reply that was made of a row
+pub from_row : (replied : Result Reply Errno) (found own : Option Inode) (make : Inode → Reply) (reply : Reply) → found ≡ own → IfOk replied (IsReplyOf found make)
+    → ((r : Inode) → own ≡ Some r → r.refcount < 2 ^ 62 → make r ≡ reply) → IfOk replied (λ x. x ≡ reply)
+from_row (Ok x) found own make reply same is follows = is.2 ∙ follows is.0 (sym same ∙ is.1) is.3
+from_row (Err errno) found own make reply same is follows = tt
 
-missing : (t : Tables) (whole : Tree) (same : Represents t whole) (x : ℕ) → inode_at t x ≡ None → (rest : List (Option ℕ)) → first_failure (node_check (node_at whole x) ∷ rest) ≡ Some 2
-missing t whole same x none rest = ap (λ (n : Option Node). first_failure (node_check n ∷ rest)) (absent t whole same x none)
+pub getattr_planned : (t : Tables) (whole : Tree) (pass x now : ℕ) (found : Option Inode) (replied : Result Reply Errno) → IsValid t → Represents t whole → found ≡ inode_at t x
+    → Checks replied (first_failure (row_check found ∷ [])) → IfOk replied (IsReplyOf found (λ r. replies.Attr (attr_of_row r))) → IsPlanOf t whole pass (ops.Getattr x) now (answer_plan replied)
+getattr_planned t whole pass x now found replied v same is checked made =
+    idle_planned t whole pass (ops.Getattr x) now replied (first_failure (row_check found ∷ [])) v same checked
+    (ap (λ c. first_failure (c ∷ [])) (node_check-row t whole same x ∙ ap row_check (sym is)))
+    (from_row replied found (inode_at t x) _ _ is made (λ r there few. sym (attr_is t whole x r v same there few))) refl refl
 
--- ---- chmod
+-- ---- one row is changed
 
-mode_passes : (mode : ℕ) → mode ≤ 4095 → mode_check mode ≡ None
-mode_passes mode fits = by_case (nat_lt 4095 mode) refl
-  where
-    by_case : (b : Bool) → nat_lt 4095 mode ≡ b → fails_with 22 b ≡ None
-    by_case true over = absurd (omega (arith, ltb-true 4095 mode over, fits))
-    by_case false over = refl
+-- the row of a number after it is put
+pub put_there : (t : Tables) (new : Inode) → inode_at (after_change (changes.PutInode new) t) new.id ≡ Some new
+put_there t new = row_at-put by_inode nat_cmp_total new.id new t.inodes ∙ ap (λ c. cond (is_eq c) (Some new) (inode_at t new.id)) (tied_itself nat_cmp_total new.id)
 
-mode_fails : (mode : ℕ) → 4095 < mode → mode_check mode ≡ Some 22
-mode_fails mode over = ap (fails_with 22) (lt-ltb 4095 mode over)
+-- a change of a row that leaves its number, kind, count and size, and the same change of a node
+pub record ChangesAlike (t : Tables) (change : Inode → Inode) (f : Node → Node) : Type 0 where
+  pub id : (r : Inode) → (change r).id ≡ r.id
+  pub kind : (r : Inode) → (change r).kind ≡ r.kind
+  pub count : (r : Inode) → (change r).refcount ≡ r.refcount
+  pub size : (r : Inode) → (change r).size ≡ r.size
+  pub node : (node : Node) (r : Inode) → shape_of_node node ≡ node_of_row t r → shape_of_node (f node) ≡ node_of_row t (change r)
 
-pub chmod_bad : (t : Tables) (whole : Tree) (pass x mode now : ℕ) → 4095 < mode → IsPlanOf t whole pass (ops.Chmod x mode) now (plans.Refuse (record { 0 = 22 }))
-chmod_bad t whole pass x mode now over =
-    (ap (λ c. first_failure (c ∷ node_check (node_at whole x) ∷ lock_check (node_at whole x) ∷ [])) (mode_fails mode over))
+-- What checks answered is the plan of an operation that changes one node so, and answers with its attributes.
+module _ (t : Tables) (whole : Tree) (pass x : ℕ) (op : Op) (now : ℕ) (change : Inode → Inode) (f : Node → Node) (v : IsValid t) (same : Represents t whole) (alike : ChangesAlike t change f)
+    (does : effect whole pass op now ≡ change_node x f whole) (gives : success whole pass op now ≡ attr_reply (change_node x f whole) x) (changes_rows : false ≡ keeps_rows whole pass op) (nameless : name_used whole op ≡ None) where
+  changed : (r new : Inode) → inode_at t x ≡ Some r → new ≡ change r → new.refcount < 2 ^ 62 → first_failure (checks whole pass op) ≡ None → IsPlanOf t whole pass op now (put_plan (Ok new))
+  changed r new is made few passes =
+      let at : x ≡ r.id = number_of t x r is in
+      let id : new.id ≡ r.id = ap (λ (y : Inode). y.id) made ∙ alike.id r in
+      let own : x ≡ new.id = at ∙ sym id in
+      let there : inode_at t new.id ≡ Some r = ap (inode_at t) (sym own) ∙ is in
+      let after : Tables = after_change (changes.PutInode new) t in
+      let next : Tree = change_node new.id f whole in
+      let valid : IsValid after = replaced_valid t r new v there (ap (λ (y : Inode). y.kind) made ∙ alike.kind r) (ap (λ (y : Inode). y.refcount) made ∙ alike.count r) (ap (λ (y : Inode). y.size) made ∙ alike.size r) in
+      let represents : Represents after next = replaced_represents t whole r new f v.ordered.inodes same there (λ node shape. alike.node node r shape ∙ ap (node_of_row t) (sym made)) in
+      let step : IsStep t after next (names_drawn whole op) = replaced t next (names_drawn whole op) r new there (ap (λ (y : Inode). y.refcount) made ∙ alike.count r) valid represents in (
+        passes,
+        sym (attr_is after next new.id new valid represents (put_there t new) few) ∙ ap (λ y. attr_reply (change_node y f whole) y) (sym own) ∙ sym gives,
+        subst (λ (y : Tree). IsStep t after y (names_drawn whole op)) (ap (λ y. change_node y f whole) (sym own) ∙ sym does) step,
+        changes_rows,
+        refl,
+        never_worn t whole op nameless,
+      )
 
-pub chmod_missing : (t : Tables) (whole : Tree) (pass x mode now : ℕ) → Represents t whole → mode ≤ 4095 → inode_at t x ≡ None → IsPlanOf t whole pass (ops.Chmod x mode) now (plans.Refuse (record { 0 = 2 }))
-chmod_missing t whole pass x mode now same fits none =
-    (ap (λ c. first_failure (c ∷ node_check (node_at whole x) ∷ lock_check (node_at whole x) ∷ [])) (mode_passes mode fits) ∙ missing t whole same x none (lock_check (node_at whole x) ∷ []))
+  pub changed_planned : (found : Option Inode) (answered : Result Inode Errno) (check : Option ℕ) → found ≡ inode_at t x → Checks answered check → first_failure (checks whole pass op) ≡ check
+      → IfOk answered (IsChangedRow found change) → IsPlanOf t whole pass op now (put_plan answered)
+  changed_planned found (Ok new) check is checked own made = changed made.0 new (sym is ∙ made.1) made.2 made.3 (own ∙ checked)
+  changed_planned found (Err errno) check is checked own made = own ∙ checked
 
-pub chmod_locked : (t : Tables) (whole : Tree) (pass x mode now : ℕ) (r : Inode) → Represents t whole → mode ≤ 4095 → inode_at t x ≡ Some r → r.locked ≡ true
-    → IsPlanOf t whole pass (ops.Chmod x mode) now (plans.Refuse (record { 0 = 1 }))
-chmod_locked t whole pass x mode now r same fits is shut =
-    (ap (λ c. first_failure (c ∷ node_check (node_at whole x) ∷ lock_check (node_at whole x) ∷ [])) (mode_passes mode fits) ∙ is_locked t whole same x r is shut [])
+-- ---- Chmod, Chown and Utimes
 
-pub chmod_planned : (t : Tables) (whole : Tree) (pass x mode now : ℕ) (r new : Inode) → IsValid t → Represents t whole → mode ≤ 4095 → inode_at t x ≡ Some r → r.locked ≡ false → r.refcount < 2 ^ 62
-    → new ≡ record r { mode = mode; ctime = now } → IsPlanOf t whole pass (ops.Chmod x mode) now (plans.Commit (changes.PutInode new ∷ []) (replies.Attr (attr_of_row new)) [])
-chmod_planned t whole pass x mode now r new v same fits is free below new_is =
-    let f : Node → Node = λ node. stamped now (record node { mode = mode }) in
-    let next : Inode = record r { mode = mode; ctime = now } in
-    let own : inode_at t r.id ≡ Some r = at_its_number t x r is in
-    let passes : first_failure (checks whole pass (ops.Chmod r.id mode)) ≡ None =
-    ap (λ c. first_failure (c ∷ node_check (node_at whole r.id) ∷ lock_check (node_at whole r.id) ∷ [])) (mode_passes mode fits) ∙ unlocked t whole same r.id r own free [] in
-    let alike : (node : Node) → shape_of_node node ≡ node_of_row t r → shape_of_node (f node) ≡ node_of_row t next = λ node shape. ap (λ (s : NodeShape). record s { mode = mode; ctime = now }) shape in
-    subst (λ y. IsPlanOf t whole pass (ops.Chmod y mode) now (plans.Commit (changes.PutInode new ∷ []) (replies.Attr (attr_of_row new)) [])) (sym (number_of t x r is))
-    (subst (λ (row : Inode). IsPlanOf t whole pass (ops.Chmod r.id mode) now (plans.Commit (changes.PutInode row ∷ []) (replies.Attr (attr_of_row row)) [])) (sym new_is)
-    (planned t whole pass (ops.Chmod r.id mode) now r next f v same own refl refl refl below alike passes refl refl refl refl))
+-- the checks on a node that is to be changed, from its row
+module _ (t : Tables) (whole : Tree) (same : Represents t whole) (x : ℕ) (found : Option Inode) (is : found ≡ inode_at t x) where
+  pub there : node_check (node_at whole x) ≡ row_check found
+  there = node_check-row t whole same x ∙ ap row_check (sym is)
 
--- ---- chown
+  pub unlocked : lock_check (node_at whole x) ≡ lock_row_check found
+  unlocked = lock_check-row t whole same x ∙ ap lock_row_check (sym is)
 
-pub chown_missing : (t : Tables) (whole : Tree) (pass x uid gid now : ℕ) → Represents t whole → inode_at t x ≡ None → IsPlanOf t whole pass (ops.Chown x uid gid) now (plans.Refuse (record { 0 = 2 }))
-chown_missing t whole pass x uid gid now same none = (missing t whole same x none (lock_check (node_at whole x) ∷ []))
+pub chmod_planned : (t : Tables) (whole : Tree) (pass x mode now : ℕ) (found : Option Inode) (answered : Result Inode Errno) → IsValid t → Represents t whole → found ≡ inode_at t x
+    → Checks answered (first_failure (mode_check mode ∷ row_check found ∷ lock_row_check found ∷ [])) → IfOk answered (IsChangedRow found (λ r. record r { mode = mode; ctime = now }))
+    → IsPlanOf t whole pass (ops.Chmod x mode) now (put_plan answered)
+chmod_planned t whole pass x mode now found answered v same is checked made =
+    changed_planned t whole pass x (ops.Chmod x mode) now (λ r. record r { mode = mode; ctime = now }) (λ node. stamped now (record node { mode = mode })) v same (record {
+      id = λ r. refl;
+      kind = λ r. refl;
+      count = λ r. refl;
+      size = λ r. refl;
+      node = λ node r shape. ap (λ (s : NodeShape). record s { mode = mode; ctime = now }) shape;
+    }) refl refl refl refl found answered _ is checked (λ i. first_failure (mode_check mode ∷ there t whole same x found is i ∷ unlocked t whole same x found is i ∷ [])) made
 
-pub chown_locked : (t : Tables) (whole : Tree) (pass x uid gid now : ℕ) (r : Inode) → Represents t whole → inode_at t x ≡ Some r → r.locked ≡ true
-    → IsPlanOf t whole pass (ops.Chown x uid gid) now (plans.Refuse (record { 0 = 1 }))
-chown_locked t whole pass x uid gid now r same is shut = (is_locked t whole same x r is shut [])
+pub chown_planned : (t : Tables) (whole : Tree) (pass x uid gid now : ℕ) (found : Option Inode) (answered : Result Inode Errno) → IsValid t → Represents t whole → found ≡ inode_at t x
+    → Checks answered (first_failure (row_check found ∷ lock_row_check found ∷ [])) → IfOk answered (IsChangedRow found (λ r. record r { uid = uid; gid = gid; ctime = now }))
+    → IsPlanOf t whole pass (ops.Chown x uid gid) now (put_plan answered)
+chown_planned t whole pass x uid gid now found answered v same is checked made =
+    changed_planned t whole pass x (ops.Chown x uid gid) now (λ r. record r { uid = uid; gid = gid; ctime = now }) (λ node. stamped now (record node { uid = uid; gid = gid })) v same (record {
+      id = λ r. refl;
+      kind = λ r. refl;
+      count = λ r. refl;
+      size = λ r. refl;
+      node = λ node r shape. ap (λ (s : NodeShape). record s { uid = uid; gid = gid; ctime = now }) shape;
+    }) refl refl refl refl found answered _ is checked (λ i. first_failure (there t whole same x found is i ∷ unlocked t whole same x found is i ∷ [])) made
 
-pub chown_planned : (t : Tables) (whole : Tree) (pass x uid gid now : ℕ) (r new : Inode) → IsValid t → Represents t whole → inode_at t x ≡ Some r → r.locked ≡ false → r.refcount < 2 ^ 62
-    → new ≡ record r { uid = uid; gid = gid; ctime = now } → IsPlanOf t whole pass (ops.Chown x uid gid) now (plans.Commit (changes.PutInode new ∷ []) (replies.Attr (attr_of_row new)) [])
-chown_planned t whole pass x uid gid now r new v same is free below new_is =
-    let f : Node → Node = λ node. stamped now (record node { uid = uid; gid = gid }) in
-    let next : Inode = record r { uid = uid; gid = gid; ctime = now } in
-    let own : inode_at t r.id ≡ Some r = at_its_number t x r is in
-    let alike : (node : Node) → shape_of_node node ≡ node_of_row t r → shape_of_node (f node) ≡ node_of_row t next = λ node shape. ap (λ (s : NodeShape). record s { uid = uid; gid = gid; ctime = now }) shape in
-    subst (λ y. IsPlanOf t whole pass (ops.Chown y uid gid) now (plans.Commit (changes.PutInode new ∷ []) (replies.Attr (attr_of_row new)) [])) (sym (number_of t x r is))
-    (subst (λ (row : Inode). IsPlanOf t whole pass (ops.Chown r.id uid gid) now (plans.Commit (changes.PutInode row ∷ []) (replies.Attr (attr_of_row row)) [])) (sym new_is)
-    (planned t whole pass (ops.Chown r.id uid gid) now r next f v same own refl refl refl below alike (unlocked t whole same r.id r own free []) refl refl refl refl))
-
--- ---- utimes
-
-time_passes : (time : ℕ) → time < 2 ^ 62 → time_check time ≡ None
-time_passes time fits = by_case (nat_le (2 ^ 62) time) refl
-  where
-    by_case : (b : Bool) → nat_le (2 ^ 62) time ≡ b → fails_with 22 b ≡ None
-    by_case true over = absurd (omega (arith, leb-true (2 ^ 62) time over, fits))
-    by_case false over = refl
-
-time_fails : (time : ℕ) → 2 ^ 62 ≤ time → time_check time ≡ Some 22
-time_fails time over = ap (fails_with 22) (le-leb (2 ^ 62) time over)
-
-pub utimes_bad : (t : Tables) (whole : Tree) (pass x mtime now : ℕ) → 2 ^ 62 ≤ mtime → IsPlanOf t whole pass (ops.Utimes x mtime) now (plans.Refuse (record { 0 = 22 }))
-utimes_bad t whole pass x mtime now over =
-    (ap (λ c. first_failure (c ∷ node_check (node_at whole x) ∷ lock_check (node_at whole x) ∷ [])) (time_fails mtime over))
-
-pub utimes_missing : (t : Tables) (whole : Tree) (pass x mtime now : ℕ) → Represents t whole → mtime < 2 ^ 62 → inode_at t x ≡ None
-    → IsPlanOf t whole pass (ops.Utimes x mtime) now (plans.Refuse (record { 0 = 2 }))
-utimes_missing t whole pass x mtime now same fits none =
-    (ap (λ c. first_failure (c ∷ node_check (node_at whole x) ∷ lock_check (node_at whole x) ∷ [])) (time_passes mtime fits) ∙ missing t whole same x none (lock_check (node_at whole x) ∷ []))
-
-pub utimes_locked : (t : Tables) (whole : Tree) (pass x mtime now : ℕ) (r : Inode) → Represents t whole → mtime < 2 ^ 62 → inode_at t x ≡ Some r → r.locked ≡ true
-    → IsPlanOf t whole pass (ops.Utimes x mtime) now (plans.Refuse (record { 0 = 1 }))
-utimes_locked t whole pass x mtime now r same fits is shut =
-    (ap (λ c. first_failure (c ∷ node_check (node_at whole x) ∷ lock_check (node_at whole x) ∷ [])) (time_passes mtime fits) ∙ is_locked t whole same x r is shut [])
-
-pub utimes_planned : (t : Tables) (whole : Tree) (pass x mtime now : ℕ) (r new : Inode) → IsValid t → Represents t whole → mtime < 2 ^ 62 → inode_at t x ≡ Some r → r.locked ≡ false
-    → r.refcount < 2 ^ 62 → new ≡ record r { mtime = mtime; ctime = now } → IsPlanOf t whole pass (ops.Utimes x mtime) now (plans.Commit (changes.PutInode new ∷ []) (replies.Attr (attr_of_row new)) [])
-utimes_planned t whole pass x mtime now r new v same fits is free below new_is =
-    let f : Node → Node = λ node. stamped now (record node { mtime = mtime }) in
-    let next : Inode = record r { mtime = mtime; ctime = now } in
-    let own : inode_at t r.id ≡ Some r = at_its_number t x r is in
-    let passes : first_failure (checks whole pass (ops.Utimes r.id mtime)) ≡ None =
-    ap (λ c. first_failure (c ∷ node_check (node_at whole r.id) ∷ lock_check (node_at whole r.id) ∷ [])) (time_passes mtime fits) ∙ unlocked t whole same r.id r own free [] in
-    let alike : (node : Node) → shape_of_node node ≡ node_of_row t r → shape_of_node (f node) ≡ node_of_row t next = λ node shape. ap (λ (s : NodeShape). record s { mtime = mtime; ctime = now }) shape in
-    subst (λ y. IsPlanOf t whole pass (ops.Utimes y mtime) now (plans.Commit (changes.PutInode new ∷ []) (replies.Attr (attr_of_row new)) [])) (sym (number_of t x r is))
-    (subst (λ (row : Inode). IsPlanOf t whole pass (ops.Utimes r.id mtime) now (plans.Commit (changes.PutInode row ∷ []) (replies.Attr (attr_of_row row)) [])) (sym new_is)
-    (planned t whole pass (ops.Utimes r.id mtime) now r next f v same own refl refl refl below alike passes refl refl refl refl))
-
--- ---- over a keeper that may tell
-
-pub over_told : (told : Option Told) (P Q R : Tables → Type 0) → ((t : Tables) → P t → Q t → R t) → IfTold told P → IfTold told Q → IfTold told R
-over_told None P Q R follows p q = tt
-over_told (Some s) P Q R follows p q = follows s.tables p q
-
--- nothing was found
-pub none_of : {X : Type 0} (found : Option X) → ((x : X) → found ≡ Some x → ⊥) → found ≡ None
-none_of None other = refl
-none_of (Some x) other = absurd (other x refl)
-
-pub over_both : (told : Option Told) (P Q R S : Tables → Type 0) → ((t : Tables) → P t → Q t → R t → S t) → IfTold told P → IfTold told Q → IfTold told R → IfTold told S
-over_both None P Q R S follows p q r = tt
-over_both (Some s) P Q R S follows p q r = follows s.tables p q r
-
-pub over_any : (told : Option Told) (P : Tables → Type 0) → ((t : Tables) → P t) → IfTold told P
-over_any None P all = tt
-over_any (Some s) P all = all s.tables
+pub utimes_planned : (t : Tables) (whole : Tree) (pass x mtime now : ℕ) (found : Option Inode) (answered : Result Inode Errno) → IsValid t → Represents t whole → found ≡ inode_at t x
+    → Checks answered (first_failure (time_check mtime ∷ row_check found ∷ lock_row_check found ∷ [])) → IfOk answered (IsChangedRow found (λ r. record r { mtime = mtime; ctime = now }))
+    → IsPlanOf t whole pass (ops.Utimes x mtime) now (put_plan answered)
+utimes_planned t whole pass x mtime now found answered v same is checked made =
+    changed_planned t whole pass x (ops.Utimes x mtime) now (λ r. record r { mtime = mtime; ctime = now }) (λ node. stamped now (record node { mtime = mtime })) v same (record {
+      id = λ r. refl;
+      kind = λ r. refl;
+      count = λ r. refl;
+      size = λ r. refl;
+      node = λ node r shape. ap (λ (s : NodeShape). record s { mtime = mtime; ctime = now }) shape;
+    }) refl refl refl refl found answered _ is checked (λ i. first_failure (time_check mtime ∷ there t whole same x found is i ∷ unlocked t whole same x found is i ∷ [])) made

@@ -30,11 +30,14 @@ use Rattle.tree_rows.specs.Shapes.{ContentShape, NodeShape, TreeShape, shape_of_
 use Rattle.tree_rows.proofs.Counting.{sum_by-map, sum_same, sum_swap, count_none, self_found, one_found}
 use Rattle.tree_rows.proofs.Listed.{named, is_in}
 use Rattle.tree_rows.proofs.Whole.{content_of_kind}
-use Rattle.ref_counts.specs.declared.plan.Plan.TheVariants as plans
 use Rattle.ref_counts.specs.Plans.{IsPlanOf}
 use Rattle.inode_ops.specs.declared.statfs.Tally.{Tally}
 use Rattle.inode_ops.specs.Tallies.{IsCounted, bytes_of_row}
-use Rattle.inode_ops.proofs.Planned.{idle}
+use Rattle.inode_ops.proofs.Planned.{idle_planned}
+use Rattle.inode_ops.specs.Answers.{answer_plan}
+use Rattle.op_frames.specs.declared.reply.Reply.{Reply}
+use Rattle.s3_base.specs.declared.errors.Errno.{Errno}
+use Rattle.std.specs.Prelude.{Result, Ok}
 
 -- ---- over shapes
 
@@ -256,12 +259,13 @@ entries_are t whole v same = entries_are_rows t v.rows.entries v.tree.unlike v.o
 
 -- ---- statfs
 
-pub stat_planned : (t : Tables) (whole : Tree) (pass now block_size : ℕ) (inodes entries : Tally) → IsValid t → Represents t whole → block_size ≡ unwrap_or (option_map (λ p. p.block_size) t.params) 0
-    → IsCounted (rows_of t tables.Inodes) inodes → IsCounted (rows_of t tables.Contents) entries
-    → IsPlanOf t whole pass ops.Statfs now (plans.Commit [] (replies.Stat block_size inodes.rows entries.rows inodes.bytes) [])
-stat_planned t whole pass now block_size inodes entries v same size of_inodes of_entries =
+pub stat_planned : (t : Tables) (whole : Tree) (pass now block_size : ℕ) (inodes entries : Tally) (replied : Result Reply Errno) → IsValid t → Represents t whole
+    → block_size ≡ unwrap_or (option_map (λ p. p.block_size) t.params) 0 → IsCounted (rows_of t tables.Inodes) inodes → IsCounted (rows_of t tables.Contents) entries
+    → replied ≡ Ok (replies.Stat block_size inodes.rows entries.rows inodes.bytes) → IsPlanOf t whole pass ops.Statfs now (answer_plan replied)
+stat_planned t whole pass now block_size inodes entries replied v same size of_inodes of_entries is =
     let sizes : block_size ≡ whole.block_size = size ∙ ap (λ (s : TreeShape). s.block_size) same in
     let nodes : inodes.rows ≡ at_most_u64 (length whole.nodes) = of_inodes.0 ∙ ap at_most_u64 (sym (nodes_are t whole same)) in
     let names : entries.rows ≡ at_most_u64 (entry_count whole) = of_entries.0 ∙ ap at_most_u64 (sym (entries_are t whole v same)) in
     let bytes : inodes.bytes ≡ at_most_u64 (byte_count whole) = of_inodes.1 ∙ ap at_most_u64 (sym (bytes_are t whole same)) in
-    (refl, λ i. replies.Stat (sizes i) (nodes i) (names i) (bytes i), idle t whole v same, refl, refl, λ worn. worn)
+    subst (λ (r : Result Reply Errno). IsPlanOf t whole pass ops.Statfs now (answer_plan r)) (sym is)
+    (idle_planned t whole pass ops.Statfs now (Ok (replies.Stat block_size inodes.rows entries.rows inodes.bytes)) None v same refl refl (λ i. replies.Stat (sizes i) (nodes i) (names i) (bytes i)) refl refl)

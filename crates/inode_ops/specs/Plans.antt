@@ -1,16 +1,9 @@
 -- The operations of this crate.
-use Rattle.std.specs.Prelude.{Bool, true, false}
+use Rattle.std.specs.Prelude.{Bool, ◌&&◌}
 use Rattle.op_frames.specs.declared.operation.Op.{Op}
-use Rattle.op_frames.specs.declared.operation.Op.TheVariants as ops
+use Rattle.plain_tree.specs.Built.{is_built}
+use Rattle.plain_tree.specs.Classes.{class_of, is_of_inodes}
 
--- the operations that this crate plans
+-- the operations that this crate plans: those on inodes and handles that are built
 abbrev pub is_planned : Op → Bool
-is_planned (ops.Getattr inode) = true
-is_planned (ops.Chmod inode mode) = true
-is_planned (ops.Chown inode uid gid) = true
-is_planned (ops.Utimes inode mtime) = true
-is_planned (ops.Open inode) = true
-is_planned (ops.Release handle) = true
-is_planned ops.Statfs = true
-is_planned ops.Leave = true
-is_planned _ = false
+is_planned op = is_of_inodes (class_of op) && is_built op

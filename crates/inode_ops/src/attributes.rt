@@ -1,41 +1,82 @@
 //! Plans of Getattr, Chmod, Chown and Utimes.
-ghost use Rattle.std.specs.Prelude.{◌≡◌, ◌<◌, ◌^◌, ℕ, [], ◌∷◌, IfOk};
+ghost use Rattle.std.specs.Prelude.{◌≡◌, ◌<◌, ◌^◌, ℕ, [], ◌∷◌, IsTrue, IfOk};
 ghost use Rattle.op_frames.specs.declared.operation.Op.TheVariants as ops;
 ghost use Rattle.op_frames.specs.declared.reply.Reply.TheVariants as replies;
-ghost use Rattle.s3_rows.specs.declared.change.Change.TheVariants as changes;
 ghost use Rattle.s3_rows.specs.Tables.{Tables};
 ghost use Rattle.s3_rows.specs.Selections.{inode_at};
 ghost use Rattle.s3_rows.specs.Validity.{IsValid};
 ghost use Rattle.plain_tree.specs.Tree.{Tree};
+ghost use Rattle.plain_tree.specs.Checks.{first_failure, mode_check, time_check};
 ghost use Rattle.tree_rows.specs.Attrs.{attr_of_row};
 ghost use Rattle.tree_rows.specs.Shapes.{Represents};
-ghost use Rattle.ref_counts.specs.declared.plan.Plan.TheVariants as plans;
-ghost use Rattle.ref_counts.specs.Plans.{IsPlanOf, HasFitReply};
+ghost use Rattle.op_checks.specs.Checks.{Checks};
+ghost use Rattle.op_checks.specs.Rows.{row_check, lock_row_check};
+ghost use Rattle.ref_counts.specs.Plans.{IsPlanOf, HasFitReply, is_fit};
+ghost use Rattle.inode_ops.specs.Answers.{IsChangedRow, IsReplyOf};
 
-use crate::answers::{answer, refuse};
+use crate::answers::{answer, put};
+use op_checks::{check_mode, check_node, check_time, check_unlocked};
 use op_frames::Reply;
-use ref_counts::errno::{EINVAL, ENOENT, EPERM};
 use ref_counts::{Plan, attr_of};
-use s3_base::Sequence;
-use s3_rows::{Batch, Change, InodeRow};
+use s3_base::Errno;
+use s3_rows::InodeRow;
 use std::alloc::{AllocError, Global};
 
-/// The permission bits of a mode.
-const MODE_BITS: u16 = 0o7777;
-
-/// Times are below this.
-const TIME_LIMIT: u64 = 1 << 62;
-
-/// The row is put, and its attributes are the reply.
-fn put_row(alloc: Global, row: InodeRow) -> Result<Plan, AllocError>
-    ensures { IfOk result (λ p. p ≡ plans.Commit (changes.PutInode row ∷ []) (replies.Attr (attr_of_row row)) []) }
+/// The attributes of a row that is there.
+fn attr_reply(found: Option<InodeRow>) -> Result<Reply, Errno>
+    ensures check { Checks result (first_failure (row_check found ∷ [])) }
+    ensures reply { IfOk result (IsReplyOf found (λ r. replies.Attr (attr_of_row r))) }
+    ensures fit { IfOk result (λ reply. IsTrue (is_fit reply)) }
 {
-    let mut batch = Batch::new(alloc);
-    batch.push(Change::PutInode(row))?;
-    Ok(Plan::Commit {
-        batch,
-        reply: Reply::Attr(attr_of(&row)),
-        drop: Sequence::new(alloc),
+    let row = check_node(found)?;
+    Ok(Reply::Attr(attr_of(&row)))
+}
+
+/// The row with another mode, stamped.
+fn with_mode(found: Option<InodeRow>, mode: u16, now: u64) -> Result<InodeRow, Errno>
+    requires { now < 2 ^ 62 }
+    ensures check { Checks result (first_failure (mode_check mode ∷ row_check found ∷ lock_row_check found ∷ [])) }
+    ensures row { IfOk result (IsChangedRow found (λ r. record r { mode = mode; ctime = now })) }
+{
+    check_mode(mode)?;
+    let row = check_node(found)?;
+    check_unlocked(&row)?;
+    Ok(InodeRow {
+        mode,
+        ctime: now,
+        ..row
+    })
+}
+
+/// The row with other owners, stamped.
+fn with_owners(found: Option<InodeRow>, uid: u32, gid: u32, now: u64) -> Result<InodeRow, Errno>
+    requires { now < 2 ^ 62 }
+    ensures check { Checks result (first_failure (row_check found ∷ lock_row_check found ∷ [])) }
+    ensures row { IfOk result (IsChangedRow found (λ r. record r { uid = uid; gid = gid; ctime = now })) }
+{
+    let row = check_node(found)?;
+    check_unlocked(&row)?;
+    Ok(InodeRow {
+        uid,
+        gid,
+        ctime: now,
+        ..row
+    })
+}
+
+/// The row with another time of modification, stamped.
+fn with_mtime(found: Option<InodeRow>, mtime: u64, now: u64) -> Result<InodeRow, Errno>
+    requires { now < 2 ^ 62 }
+    ensures check { Checks result (first_failure (time_check mtime ∷ row_check found ∷ lock_row_check found ∷ [])) }
+    ensures row { IfOk result (IsChangedRow found (λ r. record r { mtime = mtime; ctime = now })) }
+{
+    check_time(mtime)?;
+    let row = check_node(found)?;
+    check_unlocked(&row)?;
+    Ok(InodeRow {
+        mtime,
+        ctime: now,
+        ..row
     })
 }
 
@@ -43,13 +84,7 @@ pub fn getattr_of(alloc: Global, found: Option<InodeRow>) -> Plan
     ensures plan { (t : Tables) (whole : Tree) (pass x now : ℕ) → IsValid t → Represents t whole → found ≡ inode_at t x → IsPlanOf t whole pass (ops.Getattr x) now result }
     ensures fit { HasFitReply result }
 {
-    match found {
-        Some(row) => {
-            let _links = row.refcount;
-            answer(alloc, Reply::Attr(attr_of(&row)))
-        }
-        None => refuse(ENOENT),
-    }
+    answer(alloc, attr_reply(found))
 }
 
 pub fn chmod_of(
@@ -62,23 +97,7 @@ pub fn chmod_of(
     ensures plan { IfOk result (λ p. (t : Tables) (whole : Tree) (pass x : ℕ) → IsValid t → Represents t whole → found ≡ inode_at t x → IsPlanOf t whole pass (ops.Chmod x mode) now p) }
     ensures fit { IfOk result HasFitReply }
 {
-    if mode > MODE_BITS {
-        return Ok(refuse(EINVAL));
-    }
-    let Some(row) = found else {
-        return Ok(refuse(ENOENT));
-    };
-    if row.locked {
-        return Ok(refuse(EPERM));
-    }
-    put_row(
-        alloc,
-        InodeRow {
-            mode,
-            ctime: now,
-            ..row
-        },
-    )
+    put(alloc, with_mode(found, mode, now))
 }
 
 pub fn chown_of(
@@ -92,21 +111,7 @@ pub fn chown_of(
     ensures plan { IfOk result (λ p. (t : Tables) (whole : Tree) (pass x : ℕ) → IsValid t → Represents t whole → found ≡ inode_at t x → IsPlanOf t whole pass (ops.Chown x uid gid) now p) }
     ensures fit { IfOk result HasFitReply }
 {
-    let Some(row) = found else {
-        return Ok(refuse(ENOENT));
-    };
-    if row.locked {
-        return Ok(refuse(EPERM));
-    }
-    put_row(
-        alloc,
-        InodeRow {
-            uid,
-            gid,
-            ctime: now,
-            ..row
-        },
-    )
+    put(alloc, with_owners(found, uid, gid, now))
 }
 
 pub fn utimes_of(
@@ -119,21 +124,5 @@ pub fn utimes_of(
     ensures plan { IfOk result (λ p. (t : Tables) (whole : Tree) (pass x : ℕ) → IsValid t → Represents t whole → found ≡ inode_at t x → IsPlanOf t whole pass (ops.Utimes x mtime) now p) }
     ensures fit { IfOk result HasFitReply }
 {
-    if mtime >= TIME_LIMIT {
-        return Ok(refuse(EINVAL));
-    }
-    let Some(row) = found else {
-        return Ok(refuse(ENOENT));
-    };
-    if row.locked {
-        return Ok(refuse(EPERM));
-    }
-    put_row(
-        alloc,
-        InodeRow {
-            mtime,
-            ctime: now,
-            ..row
-        },
-    )
+    put(alloc, with_mtime(found, mtime, now))
 }

@@ -6,7 +6,8 @@ ghost use Rattle.s3_rows.specs.Validity.{IsValid};
 ghost use Rattle.plain_tree.specs.Tree.{Tree};
 ghost use Rattle.tree_rows.specs.Shapes.{Represents};
 ghost use Rattle.ref_counts.specs.Handles.{HasHandles};
-ghost use Rattle.ref_counts.specs.Plans.{AreNamed, IsPlanOf, HasFitReply, closes_handles};
+ghost use Rattle.plain_tree.specs.Classes.{class_of, is_closing};
+ghost use Rattle.ref_counts.specs.Plans.{AreNamed, IsPlanOf, HasFitReply};
 ghost use Rattle.inode_ops.specs.Plans.{is_planned};
 
 use crate::answers::answer;
@@ -30,10 +31,9 @@ pub fn plan<K: Keeper>(
 ) -> Result<Plan, KeeperFault>
     requires planned { IsTrue (is_planned op.now) }
     requires now { now < 2 ^ 62 }
-    requires valid { IfTold (K.told keeper.old) IsValid }
     // Where handles go, every inode has a name, so that nothing goes with them.
-    requires named { IsTrue (closes_handles op.now) → IfTold (K.told keeper.old) AreNamed }
-    ensures plan { IfOk result (λ p. IfTold (K.told keeper.old) (λ t. (whole : Tree) → Represents t whole → HasHandles handles.now whole → IsPlanOf t whole pass op.now now p)) }
+    ensures plan { IfOk result (λ p. IfTold (K.told keeper.old) (λ t. IsValid t → (IsTrue (is_closing (class_of op.now)) → AreNamed t)
+        → (whole : Tree) → Represents t whole → HasHandles handles.now whole → IsPlanOf t whole pass op.now now p)) }
     ensures same { K.told keeper.new ≡ K.told keeper.old }
     ensures cause { HasCause (K.faults keeper.old) (K.faults keeper.new) (has_failed result) }
     ensures fit { IfOk result HasFitReply }
@@ -61,7 +61,7 @@ pub fn plan<K: Keeper>(
         }
         Op::Release { handle } => release(alloc, keeper, handles, pass, *handle),
         Op::Statfs => statfs(alloc, keeper),
-        Op::Leave => Ok(answer(alloc, Reply::Done)),
+        Op::Leave => Ok(answer(alloc, Ok(Reply::Done))),
         _ => unreachable!(),
     }
 }

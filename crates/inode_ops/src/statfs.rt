@@ -115,8 +115,7 @@ fn block_size_of(params: Option<Params>) -> u32
 
 /// The size of a block, and how many nodes, entries and bytes of regular files there are.
 pub fn statfs<K: Keeper>(alloc: Global, keeper: &mut K) -> Result<Plan, KeeperFault>
-    requires valid { IfTold (K.told keeper.old) IsValid }
-    ensures plan { IfOk result (λ p. IfTold (K.told keeper.old) (λ t. (whole : Tree) (pass now : ℕ) → Represents t whole → IsPlanOf t whole pass ops.Statfs now p)) }
+    ensures plan { IfOk result (λ p. IfTold (K.told keeper.old) (λ t. IsValid t → (whole : Tree) (pass now : ℕ) → Represents t whole → IsPlanOf t whole pass ops.Statfs now p)) }
     ensures same { K.told keeper.new ≡ K.told keeper.old }
     ensures cause { HasCause (K.faults keeper.old) (K.faults keeper.new) (has_failed result) }
     ensures fit { IfOk result HasFitReply }
@@ -124,13 +123,11 @@ pub fn statfs<K: Keeper>(alloc: Global, keeper: &mut K) -> Result<Plan, KeeperFa
     let block_size = block_size_of(keeper.params()?);
     let inodes = count(keeper, TableName::Inodes)?;
     let entries = count(keeper, TableName::Contents)?;
-    Ok(answer(
-        alloc,
-        Reply::Stat {
-            block_size,
-            inodes: inodes.rows,
-            entries: entries.rows,
-            bytes: inodes.bytes,
-        },
-    ))
+    let stat = Reply::Stat {
+        block_size,
+        inodes: inodes.rows,
+        entries: entries.rows,
+        bytes: inodes.bytes,
+    };
+    Ok(answer(alloc, Ok(stat)))
 }

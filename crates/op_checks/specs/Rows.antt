@@ -1,5 +1,5 @@
 -- The checks on a node, made of its row. Each says of the row what the tree's check says of the node.
-use Rattle.std.specs.Prelude.{ℕ, ◌+◌, ◌^◌, Bool, true, false, not, nat_lt, nat_le, Option, None, Some}
+use Rattle.std.specs.Prelude.{ℕ, ◌+◌, ◌^◌, not, nat_lt, Option, None, Some}
 use Rattle.s3_base.specs.Errors.{enoent, ebadf, enotdir, eisdir, einval, eperm, enospc}
 use Rattle.s3_base.specs.declared.node_kind.Kind.TheVariants as kinds
 use Rattle.plain_tree.specs.Checks.{fails_with}

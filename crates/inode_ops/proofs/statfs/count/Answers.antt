@@ -3,7 +3,7 @@ use Rattle.s3_rows.specs.declared.table_rows.Row.{Row}
 use Rattle.s3_rows.specs.Tables.{IsOrdered}
 use Rattle.s3_rows.specs.Selections.{rows_of, page_of}
 use Rattle.s3_rows.specs.Told.{Told, IfTold, is_page_of}
-use Rattle.inode_ops.proofs.Planned.{over_told, over_any}
+use Rattle.ref_counts.proofs.Told.{IfTold-weaker2, IfTold-all}
 use Rattle.inode_ops.proofs.Counted.{IsPartly, page_counted, all_counted, none_yet, page_nearer, page_fits, page_short}
 use Rattle.inode_ops.proofs.statfs.count.Goals as goal
 
@@ -13,7 +13,7 @@ pages-init g c = record {
   later = omega arith;
   fits = refl;
   short = refl;
-  partly = over_any (g.K.Keeper.told c.args.keeper.now) (λ t. IsOrdered t → IsPartly (rows_of t c.args.table) _) (λ t o. none_yet (rows_of t c.args.table));
+  partly = IfTold-all (g.K.Keeper.told c.args.keeper.now) (λ t. IsOrdered t → IsPartly (rows_of t c.args.table) _) (λ t o. none_yet (rows_of t c.args.table));
 }
 
 pub pages-smaller : goal.pages-smaller
@@ -34,7 +34,7 @@ pages-preserved g c =
       fits = page_fits c.pages.tally c.add_page-tally.result c.as_slice.result.now c.args.table 256 c.add_page-tally.ensures.added c.pages.invariant.fits page;
       short = page_short c.pages.tally c.add_page-tally.result c.as_slice.result.now c.add_page-tally.ensures.added c.pages.invariant.short c.add_page-tally.ensures.short;
       partly =
-          over_told (g.K.Keeper.told c.args.keeper.now) _ _ _
+          IfTold-weaker2 (g.K.Keeper.told c.args.keeper.now) _ _ _
           (λ t partly is o. page_counted t c.args.table c.pages.tally c.add_page-tally.result c.as_slice.result.now 256 o (partly o) (same ∙ is) c.add_page-tally.ensures.added)
           c.pages.invariant.partly
           (subst (λ (told : Option Told). IfTold told (λ t. c.in_ok-page.page ≡ page_of t c.args.table c.pages.tally.after 256)) c.pages.invariant.told c.in_ok-page.ensures.rows);
@@ -42,7 +42,7 @@ pages-preserved g c =
 
 pub returns-then-len-eq0-clause-counted : goal.returns-then-len-eq0-clause-counted
 returns-then-len-eq0-clause-counted g c =
-    over_told (g.K.Keeper.told c.args.keeper.now) _ _ _
+    IfTold-weaker2 (g.K.Keeper.told c.args.keeper.now) _ _ _
     (λ t partly is o. all_counted t c.args.table c.pages.tally c.in_ok-page.page 256 (omega arith) (partly o) is (sym c.len.ensures ∙ c.if-len-eq0.true))
     c.pages.invariant.partly
     (subst (λ (told : Option Told). IfTold told (λ t. c.in_ok-page.page ≡ page_of t c.args.table c.pages.tally.after 256)) c.pages.invariant.told c.in_ok-page.ensures.rows)
