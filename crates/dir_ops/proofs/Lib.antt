@@ -1,4 +1,3 @@
 pub mod Made
-pub mod Named
 pub mod Placed
 pub mod Taken

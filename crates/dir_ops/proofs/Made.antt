@@ -3,6 +3,7 @@ use Rattle.std.proofs.Common.{◌≡◌, ◌+◌, ℕ, List, [], ◌∷◌, ◌+
 use Rattle.std.specs.Prelude.{IsTrue, ◌^◌, ◌==◌, nat_lt}
 use Rattle.std.specs.Cmp.{nat_cmp_total}
 use Rattle.std.specs.Ordering.{nat_cmp, is_eq}
+use Rattle.s3_base.specs.declared.errors.Errno.{Errno}
 use Rattle.op_frames.specs.declared.operation.Op.TheVariants as ops
 use Rattle.op_frames.specs.declared.reply.Reply.TheVariants as replies
 use Rattle.plain_tree.specs.Tree.{Node, Tree}
@@ -13,7 +14,7 @@ use Rattle.s3_rows.specs.declared.change.Change.{Change}
 use Rattle.s3_rows.specs.declared.change.Change.TheVariants as changes
 use Rattle.s3_rows.specs.Rows.{Inode, Name, Parameters}
 use Rattle.s3_rows.specs.Keyed.{put, row_at}
-use Rattle.s3_rows.specs.Tables.{Tables, by_inode}
+use Rattle.s3_rows.specs.Tables.{Tables, IsOrdered, by_inode}
 use Rattle.s3_rows.specs.Batches.{tables_after}
 use Rattle.s3_rows.specs.Selections.{inode_at, name_of_bytes}
 use Rattle.s3_rows.specs.Told.{Told, IfTold}
@@ -23,7 +24,7 @@ use Rattle.tree_rows.specs.Attrs.{attr_of_row}
 use Rattle.tree_rows.specs.Shapes.{Represents}
 use Rattle.tree_rows.proofs.Attributed.{attr_alike}
 use Rattle.ref_counts.specs.Handles.{OpenHandles, HasHandles}
-use Rattle.ref_counts.specs.Names.{Raised, raised, raised_of, IsRaised}
+use Rattle.ref_counts.specs.Names.{Raised, raised, raised_of, StaysUnique, IsRaised}
 use Rattle.ref_counts.specs.Plans.{IsStep, IsPlanOf}
 use Rattle.ref_counts.specs.declared.plan.Plan.{Plan}
 use Rattle.ref_counts.specs.declared.plan.Plan.TheVariants as plans
@@ -70,6 +71,11 @@ checks_pass : (whole : Tree) (pass parent mode uid gid : ℕ) (name : List ℕ) 
     → first_failure (checks whole pass (ops.Create parent name mode uid gid)) ≡ None
 checks_pass whole pass parent mode uid gid name legal fits open_place = (λ i. first_failure (legal i ∷ fits i ∷ place_checks whole parent name)) ∙ open_place
 
+-- the directory, or the name in it, is refused
+pub refused_place : (t : Tables) (whole : Tree) (pass parent mode uid gid now : ℕ) (name : List ℕ) (errno : Errno) → name_check name ≡ None → mode_check mode ≡ None → first_failure (place_checks whole parent name) ≡ Some errno.0
+    → IsPlanOf t whole pass (ops.Create parent name mode uid gid) now (plans.Refuse errno)
+refused_place t whole pass parent mode uid gid now name errno legal fits refused = (λ i. first_failure (legal i ∷ fits i ∷ place_checks whole parent name)) ∙ refused
+
 -- the new row is found
 new_there : (t : Tables) (p : Parameters) (directory new : Inode) (more : Raised) (name : List ℕ) (now : ℕ) → IsCreation t p directory new more name
     → inode_at (tables_after (creation p directory more new now) t) new.id ≡ Some new
@@ -103,8 +109,8 @@ file_planned t whole h p directory more name pass parent mode uid gid now v uniq
     let made_so = allowed t whole p directory more pass parent mode uid gid now name v unique same place.params place.there passes used in
     let is : IsCreation t p directory row more name = made_so.0 in
     let after : Tables = tables_after (creation p directory more row now) t in
-    let step : IsStep t after (effect whole pass (ops.Create parent name mode uid gid) now) =
-    subst (λ x. IsStep t after (effect whole pass (ops.Create x name mode uid gid) now)) made_so.1 (created_step t whole p directory more name pass mode uid gid now is same) in
+    let step : IsStep t after (effect whole pass (ops.Create parent name mode uid gid) now) 1 =
+    subst (λ x. IsStep t after (effect whole pass (ops.Create x name mode uid gid) now) 1) made_so.1 (created_step t whole p directory more name pass mode uid gid now is same) in
     let next : whole.next_inode ≡ p.next_inode = next_is t whole p same place.params in
     let attr : attr_of (effect whole pass (ops.Create parent name mode uid gid) now) p.next_inode node ≡ attr_of_row row =
     attr_alike after (effect whole pass (ops.Create parent name mode uid gid) now) p.next_inode row node step.valid step.represents (new_there t p directory row more name now is) (omega arith)
@@ -120,13 +126,14 @@ pub made : (told : Option Told) (h : OpenHandles) (p : Parameters) (directory : 
     → name_check name ≡ None → mode_check mode ≡ None → before ≡ changes.SetParams (drawn p) ∷ [] → answer ≡ Some name_id
     → batch ≡ middle ++ changes.PutContent (record { parent = directory.id; name_id = name_id; inode = p.next_inode }) ∷ changes.PutInode (new_file_row p.next_inode mode uid gid now) ∷ changes.PutInode (touched_row now directory) ∷ []
     → plan ≡ plans.Commit batch (replies.Opened h.next (attr_of_row (new_file_row p.next_inode mode uid gid now))) []
-    → IfTold told IsValid → IfTold told HasUniqueNames → IfTold told (λ t. IsRaised (raised (tables_after before t) name) before answer middle)
-    → IfTold told (λ t. (whole : Tree) (pass parent : ℕ) → Represents t whole → HasHandles h whole → IsPlace t parent name directory p → first_failure (place_checks whole parent name) ≡ None
+    → IfTold told (λ t. IsOrdered t → StaysUnique before t → IsRaised (raised (tables_after before t) name) before answer middle)
+    → IfTold told (λ t. IsValid t → HasUniqueNames t → (whole : Tree) (pass parent : ℕ) → Represents t whole → HasHandles h whole → IsPlace t parent name directory p → first_failure (place_checks whole parent name) ≡ None
     → IsPlanOf t whole pass (ops.Create parent name mode uid gid) now plan)
-made None h p directory name mode uid gid now name_id before middle batch answer plan legal fits begins given grown is v unique used = tt
-made (Some s) h p directory name mode uid gid now name_id before middle batch answer plan legal fits begins given grown is v unique used =
-    λ whole pass parent same hands place open_place.
+made None h p directory name mode uid gid now name_id before middle batch answer plan legal fits begins given grown is raised_told = tt
+made (Some s) h p directory name mode uid gid now name_id before middle batch answer plan legal fits begins given grown is raised_told =
+    λ v unique whole pass parent same hands place open_place.
     let t : Tables = s.tables in
+    let used : IsRaised (raised (tables_after before t) name) before answer middle = raised_told v.ordered (subst (λ cs. StaysUnique cs t) (sym begins) (unique, unique)) in
     let row : Inode = new_file_row p.next_inode mode uid gid now in
     let use_is = answered (raised (tables_after before t) name) before middle answer name_id used given in
     let more : Raised = use_is.0 in

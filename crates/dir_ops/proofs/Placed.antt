@@ -1,42 +1,27 @@
 -- The checks of the directory in which an entry is made, from its row.
-use Rattle.std.proofs.Common.{◌≡◌, ◌<◌, ◌≤◌, ◌^◌, ◌+◌, ℕ, List, [], ◌∷◌, Bool, true, false, Option, None, Some, refl, sym, ap, ◌∙◌, arith, ltb-true, lt-ltb}
-use Rattle.std.specs.Prelude.{not, is_some, nat_lt, nat_le, find, option_map, unwrap_or}
+use Rattle.std.proofs.Common.{◌≡◌, ◌^◌, ℕ, List, [], ◌∷◌, Bool, true, false, Option, None, Some, Result, Ok, Err, refl, sym, ap, ◌∙◌}
+use Rattle.std.specs.Prelude.{not, is_some, nat_le, find, option_map, IfOk}
+use Rattle.s3_base.specs.Errors.{eexist, enospc, enotdir}
+use Rattle.s3_base.specs.declared.errors.Errno.{Errno}
 use Rattle.s3_base.specs.declared.node_kind.Kind.{Kind}
 use Rattle.s3_base.specs.declared.node_kind.Kind.TheVariants as kinds
 use Rattle.plain_tree.specs.Tree as tree
 use Rattle.plain_tree.specs.Tree.{Node, Tree, node_at, entry_of}
-use Rattle.plain_tree.specs.Checks.{fails_with, first_failure, node_check, directory_check, lock_check, free_check, ids_check, hand_check}
+use Rattle.plain_tree.specs.Checks.{fails_with, first_failure, free_check, node_check, directory_check, lock_check, ids_check}
 use Rattle.s3_rows.specs.Rows.{Inode, Content, Parameters}
 use Rattle.s3_rows.specs.Tables.{Tables}
 use Rattle.s3_rows.specs.Selections.{inode_at}
 use Rattle.s3_rows.specs.Validity.{IsValid, is_directory}
 use Rattle.s3_rows.proofs.Sorting.{any_found}
-use Rattle.tree_rows.specs.Shapes.{ContentShape, Regular, Directory, Link, NodeShape, TreeShape, shape_of_content, shape_of_node, node_of_row, Represents}
+use Rattle.tree_rows.specs.Shapes.{NodeShape, shape_of_content, Represents}
 use Rattle.tree_rows.proofs.Listed.{is_entry, entry_in}
-use Rattle.tree_rows.proofs.Replaced.{node_of}
-use Rattle.tree_rows.proofs.Shaped.{entry_of_shape, found_alike}
+use Rattle.tree_rows.proofs.Shaped.{entry_of_shape}
 use Rattle.tree_rows.proofs.Whole.{content_of_kind, number_of}
+use Rattle.op_checks.specs.Checks.{Checks}
+use Rattle.op_checks.specs.Rows.{row_check, directory_row_check, lock_row_check, ids_row_check}
+use Rattle.op_checks.proofs.Nodes.{node_there, node_check-row, directory_check-row, lock_check-row, ids_check-row}
 use Rattle.dir_ops.specs.Entries.{is_taken}
-use Rattle.dir_ops.specs.Places.{place_checks}
-
--- ---- of shapes
-
-folder_check : ContentShape → Option ℕ
-folder_check (Directory entries) = None
-folder_check (Regular size) = Some 20
-folder_check (Link target) = Some 20
-
-folder_alike : (content : tree.Content) → (elim content [ tree.Directory entries ↦ None | tree.Regular bytes ↦ Some 20 | tree.Link target ↦ Some 20 ]) ≡ folder_check (shape_of_content content)
-unfolding folder_check
-folder_alike (tree.Regular bytes) = refl
-folder_alike (tree.Directory entries) = refl
-folder_alike (tree.Link target) = refl
-
-folder_of_kind : (t : Tables) (r : Inode) (kind : Kind) → folder_check (content_of_kind t r kind) ≡ fails_with 20 (not (is_directory kind))
-unfolding folder_check
-folder_of_kind t r kinds.Directory = refl
-folder_of_kind t r kinds.Regular = refl
-folder_of_kind t r kinds.Link = refl
+use Rattle.dir_ops.specs.Places.{IsPlaced, place_checks}
 
 entry_alike : (content : tree.Content) (name : List ℕ) → entry_of content name ≡ entry_of_shape (shape_of_content content) name
 entry_alike (tree.Regular bytes) name = refl
@@ -47,102 +32,83 @@ is_some_map : {X Y : Type 0} (f : X → Y) (found : Option X) → is_some (optio
 is_some_map f None = refl
 is_some_map f (Some x) = refl
 
-other_kind : (kind : Kind) → (kind ≡ kinds.Directory → ⊥) → is_directory kind ≡ false
-other_kind kinds.Directory other = absurd (other refl)
-other_kind kinds.Regular other = refl
-other_kind kinds.Link other = refl
+-- a kind that passes is a directory
+kind_is : (kind : Kind) → fails_with enotdir (not (is_directory kind)) ≡ None → kind ≡ kinds.Directory
+kind_is kinds.Directory passes = refl
+kind_is kinds.Regular passes = absurd (cc passes)
+kind_is kinds.Link passes = absurd (cc passes)
 
--- nothing was found
-pub none_of : {X : Type 0} (found : Option X) → ((x : X) → found ≡ Some x → ⊥) → found ≡ None
-none_of None other = refl
-none_of (Some x) other = absurd (other x refl)
+-- where none fails, the first does not
+first_passes : (check : Option ℕ) (checks : List (Option ℕ)) → first_failure (check ∷ checks) ≡ None → check ≡ None
+first_passes None checks passes = refl
+first_passes (Some errno) checks passes = absurd (cc passes)
 
--- ---- verdicts
-
--- the first failure, by what is asked in order
-abbrev verdict : Bool → Bool → Bool → Bool → Bool → Option ℕ
-verdict other locked taken worn full = first_failure (fails_with 20 other ∷ fails_with 1 locked ∷ fails_with 17 taken ∷ fails_with 28 worn ∷ fails_with 28 full ∷ [])
-
--- a number is left where the next one is below 2^62
-left : (n : ℕ) → n < 2 ^ 62 → nat_lt (2 ^ 62) (n + 1) ≡ false
-left n below = by_case (nat_lt (2 ^ 62) (n + 1)) refl
-  where
-    by_case : (b : Bool) → nat_lt (2 ^ 62) (n + 1) ≡ b → b ≡ false
-    by_case true over = absurd (omega (arith, ltb-true (2 ^ 62) (n + 1) over, below))
-    by_case false over = refl
-
--- ---- of a tree and tables that represent it
+others_pass : (check : Option ℕ) (checks : List (Option ℕ)) → first_failure (check ∷ checks) ≡ None → first_failure checks ≡ None
+others_pass None checks passes = passes
+others_pass (Some errno) checks passes = absurd (cc passes)
 
 module _ (t : Tables) (whole : Tree) (v : IsValid t) (same : Represents t whole) (parent : ℕ) (name : List ℕ) where
-  no_node : inode_at t parent ≡ None → node_at whole parent ≡ None
-  no_node none = by_case (node_at whole parent) (found_alike t whole same parent ∙ ap (option_map (node_of_row t)) none)
-    where
-      by_case : (found : Option Node) → option_map shape_of_node found ≡ None → found ≡ None
-      by_case None is = refl
-      by_case (Some node) is = absurd (cc is)
+  -- the name is free in a directory where no entry has it
+  is_free : (r : Inode) → inode_at t parent ≡ Some r → r.kind ≡ kinds.Directory → free_check (node_at whole parent) name ≡ fails_with eexist (is_taken t parent name)
+  is_free r there kind =
+      let seen = node_there t whole same parent r there in
+      let node : Node = seen.0 in
+      let content : shape_of_content node.content ≡ content_of_kind t r kinds.Directory = ap (λ (s : NodeShape). s.content) seen.2 ∙ ap (content_of_kind t r) kind in
+      let inode_of : Content → ℕ = λ c. c.inode in
+      let entry : entry_of node.content name ≡ option_map inode_of (find (is_entry t parent name) t.contents) =
+      entry_alike node.content name ∙ ap (λ shape. entry_of_shape shape name) content ∙ entry_in t v.rows.entries r.id name
+      ∙ ap (λ x. option_map inode_of (find (is_entry t x name) t.contents)) (sym (number_of t parent r there)) in
+      ap (λ n. free_check n name) seen.1
+      ∙ ap (λ found. fails_with eexist (is_some found)) entry
+      ∙ ap (fails_with eexist) (is_some_map inode_of (find (is_entry t parent name) t.contents) ∙ sym (any_found (is_entry t parent name) t.contents))
 
-  pub no_place : inode_at t parent ≡ None → first_failure (place_checks whole parent name) ≡ Some 2
-  no_place none =
-      ap (λ (n : Option Node). first_failure (node_check n ∷ directory_check n ∷ lock_check n ∷ free_check n name ∷ ids_check whole 1 ∷ hand_check whole ∷ [])) (no_node none)
+  -- the checks that need the tree are those on the rows: the name is asked for where the directory is one
+  module _ (found : Option Inode) (is : found ≡ inode_at t parent) (taken : Bool) (taken_is : taken ≡ is_taken t parent name) (full : Bool) (full_is : full ≡ nat_le (2 ^ 62) whole.next_handle) (p : Parameters) (set : t.params ≡ Some p) where
+    abbrev row_checks : List (Option ℕ)
+    row_checks = row_check found ∷ directory_row_check found ∷ lock_row_check found ∷ fails_with eexist taken ∷ ids_row_check p 1 ∷ fails_with enospc full ∷ []
 
-  module _ (r : Inode) (there : inode_at t parent ≡ Some r) where
-    shaped : (node : Node) × (node_at whole parent ≡ Some node) × (shape_of_node node ≡ node_of_row t r)
-    shaped = node_of (node_at whole parent) (node_of_row t r) (found_alike t whole same parent ∙ ap (option_map (node_of_row t)) there)
+    pub place_checks-rows : first_failure (place_checks whole parent name) ≡ first_failure row_checks
+    place_checks-rows = by_row found is
+      where
+        with_rows : (row : Option Inode) → row ≡ inode_at t parent → (free : Option ℕ)
+            → first_failure (node_check (node_at whole parent) ∷ directory_check (node_at whole parent) ∷ lock_check (node_at whole parent) ∷ free ∷ ids_check whole 1 ∷ fails_with enospc (nat_le (2 ^ 62) whole.next_handle) ∷ [])
+            ≡ first_failure (row_check row ∷ directory_row_check row ∷ lock_row_check row ∷ free ∷ ids_row_check p 1 ∷ fails_with enospc full ∷ [])
+        with_rows row own free =
+            let node = node_check-row t whole same parent ∙ ap row_check (sym own) in
+            let directory = directory_check-row t whole same parent ∙ ap directory_row_check (sym own) in
+            let lock = lock_check-row t whole same parent ∙ ap lock_row_check (sym own) in
+            λ i. first_failure (node i ∷ directory i ∷ lock i ∷ free ∷ ids_check-row t whole p 1 same set i ∷ fails_with enospc (sym full_is i) ∷ [])
 
-    content_is : (node : Node) → shape_of_node node ≡ node_of_row t r → shape_of_content node.content ≡ content_of_kind t r r.kind
-    content_is node shape = ap (λ (s : NodeShape). s.content) shape
+        by_kind : (r : Inode) → Some r ≡ inode_at t parent → (kind : Kind) → r.kind ≡ kind
+            → first_failure (row_check (Some r) ∷ fails_with enotdir (not (is_directory kind)) ∷ lock_row_check (Some r) ∷ free_check (node_at whole parent) name ∷ ids_row_check p 1 ∷ fails_with enospc full ∷ [])
+            ≡ first_failure (row_check (Some r) ∷ fails_with enotdir (not (is_directory kind)) ∷ lock_row_check (Some r) ∷ fails_with eexist taken ∷ ids_row_check p 1 ∷ fails_with enospc full ∷ [])
+        by_kind r own kinds.Directory kind = ap (λ c. first_failure (lock_row_check (Some r) ∷ c ∷ ids_row_check p 1 ∷ fails_with enospc full ∷ [])) (is_free r (sym own) kind ∙ ap (fails_with eexist) (sym taken_is))
+        by_kind r own kinds.Regular kind = refl
+        by_kind r own kinds.Link kind = refl
 
-    is_folder : directory_check (node_at whole parent) ≡ fails_with 20 (not (is_directory r.kind))
-    is_folder =
-        let node : Node = shaped.0 in
-        ap directory_check shaped.1 ∙ folder_alike node.content ∙ ap folder_check (content_is node shaped.2) ∙ folder_of_kind t r r.kind
+        by_row : (row : Option Inode) → row ≡ inode_at t parent → first_failure (place_checks whole parent name)
+            ≡ first_failure (row_check row ∷ directory_row_check row ∷ lock_row_check row ∷ fails_with eexist taken ∷ ids_row_check p 1 ∷ fails_with enospc full ∷ [])
+        by_row None own = with_rows None own (free_check (node_at whole parent) name)
+        by_row (Some r) own = with_rows (Some r) own (free_check (node_at whole parent) name) ∙ by_kind r own r.kind refl
 
-    is_locked : lock_check (node_at whole parent) ≡ fails_with 1 r.locked
-    is_locked = ap lock_check shaped.1 ∙ ap (λ (s : NodeShape). fails_with 1 s.locked) shaped.2
-
-    is_free : r.kind ≡ kinds.Directory → free_check (node_at whole parent) name ≡ fails_with 17 (is_taken t parent name)
-    is_free kind =
-        let node : Node = shaped.0 in
-        let inode_of : Content → ℕ = λ c. c.inode in
-        let entry : entry_of node.content name ≡ option_map inode_of (find (is_entry t parent name) t.contents) =
-        entry_alike node.content name ∙ ap (λ content. entry_of_shape content name) (content_is node shaped.2 ∙ ap (content_of_kind t r) kind) ∙ entry_in t v.rows.entries r.id name
-        ∙ ap (λ x. option_map inode_of (find (is_entry t x name) t.contents)) (sym (number_of t parent r there)) in
-        ap (λ n. free_check n name) shaped.1
-        ∙ ap (λ found. fails_with 17 (is_some found)) entry
-        ∙ ap (fails_with 17) (is_some_map inode_of (find (is_entry t parent name) t.contents) ∙ sym (any_found (is_entry t parent name) t.contents))
-
-    -- it is no directory
-    pub no_folder : (r.kind ≡ kinds.Directory → ⊥) → first_failure (place_checks whole parent name) ≡ Some 20
-    no_folder other =
-        let folder : directory_check (node_at whole parent) ≡ Some 20 = is_folder ∙ ap (λ b. fails_with 20 (not b)) (other_kind r.kind other) in
-        λ i. first_failure (ap node_check shaped.1 i ∷ folder i ∷ lock_check (node_at whole parent) ∷ free_check (node_at whole parent) name ∷ ids_check whole 1 ∷ hand_check whole ∷ [])
-
-    module _ (p : Parameters) (set : t.params ≡ Some p) (kind : r.kind ≡ kinds.Directory) where
-      next_is : whole.next_inode ≡ p.next_inode
-      next_is = sym (ap (λ (s : TreeShape). s.next_inode) same) ∙ ap (λ (found : Option Parameters). unwrap_or (option_map (λ x. x.next_inode) found) 0) set
-
-      verdict_is : first_failure (place_checks whole parent name) ≡ verdict false r.locked (is_taken t parent name) (nat_lt (2 ^ 62) (p.next_inode + 1)) (nat_le (2 ^ 62) whole.next_handle)
-      verdict_is =
-          let folder : directory_check (node_at whole parent) ≡ None = is_folder ∙ ap (λ k. fails_with 20 (not (is_directory k))) kind in
-          λ i. first_failure (
-          ap node_check shaped.1 i ∷ folder i ∷ is_locked i ∷ is_free kind i ∷ ap (λ n. fails_with 28 (nat_lt (2 ^ 62) (n + 1))) next_is i ∷ hand_check whole ∷ []
-          )
-
-      -- the directory is locked, the name is taken, or no number is left
-      pub locked_place : r.locked ≡ true → first_failure (place_checks whole parent name) ≡ Some 1
-      locked_place shut = verdict_is ∙ ap (λ b. verdict false b (is_taken t parent name) (nat_lt (2 ^ 62) (p.next_inode + 1)) (nat_le (2 ^ 62) whole.next_handle)) shut
-
-      pub taken_place : r.locked ≡ false → is_taken t parent name ≡ true → first_failure (place_checks whole parent name) ≡ Some 17
-      taken_place free taken = verdict_is ∙ (λ i. verdict false (free i) (taken i) (nat_lt (2 ^ 62) (p.next_inode + 1)) (nat_le (2 ^ 62) whole.next_handle))
-
-      pub worn_place : r.locked ≡ false → is_taken t parent name ≡ false → 2 ^ 62 ≤ p.next_inode → first_failure (place_checks whole parent name) ≡ Some 28
-      worn_place free untaken over =
-          let none : nat_lt (2 ^ 62) (p.next_inode + 1) ≡ true = lt-ltb (2 ^ 62) (p.next_inode + 1) (omega (arith, over)) in
-          verdict_is ∙ (λ i. verdict false (free i) (untaken i) (none i) (nat_le (2 ^ 62) whole.next_handle))
-
-      pub full_place : r.locked ≡ false → is_taken t parent name ≡ false → p.next_inode < 2 ^ 62 → nat_le (2 ^ 62) whole.next_handle ≡ true → first_failure (place_checks whole parent name) ≡ Some 28
-      full_place free untaken below full = verdict_is ∙ (λ i. verdict false (free i) (untaken i) (left p.next_inode below i) (full i))
-
-      -- nothing fails
-      pub open_place : r.locked ≡ false → is_taken t parent name ≡ false → p.next_inode < 2 ^ 62 → nat_le (2 ^ 62) whole.next_handle ≡ false → first_failure (place_checks whole parent name) ≡ None
-      open_place free untaken below open_hand = verdict_is ∙ (λ i. verdict false (free i) (untaken i) (left p.next_inode below i) (open_hand i))
+    pub placed : (params : Option Parameters) (result : Result (Inode × Parameters) Errno) → params ≡ t.params → IfOk result (λ place. found ≡ Some place.0) → IfOk result (λ place. params ≡ Some place.1)
+        → Checks result (first_failure row_checks) → IsPlaced t whole parent name result
+    placed params (Ok place) params_is here given own =
+        let passes : first_failure row_checks ≡ None = own in
+        let there : first_failure (directory_row_check found ∷ lock_row_check found ∷ fails_with eexist taken ∷ ids_row_check p 1 ∷ fails_with enospc full ∷ []) ≡ None = others_pass (row_check found) _ passes in
+        let open_one : first_failure (lock_row_check found ∷ fails_with eexist taken ∷ ids_row_check p 1 ∷ fails_with enospc full ∷ []) ≡ None = others_pass (directory_row_check found) _ there in
+        let free_one : first_failure (fails_with eexist taken ∷ ids_row_check p 1 ∷ fails_with enospc full ∷ []) ≡ None = others_pass (lock_row_check found) _ open_one in
+        let folder : fails_with enotdir (not (is_directory (place.0).kind)) ≡ None = ap directory_row_check (sym here) ∙ first_passes (directory_row_check found) _ there in (
+          record {
+            there = sym is ∙ here;
+            kind = kind_is (place.0).kind folder;
+            free = sym taken_is ∙ not_taken taken (first_passes (fails_with eexist taken) _ free_one);
+            params = sym params_is ∙ given;
+          },
+          place_checks-rows ∙ passes,
+        )
+      where
+        not_taken : (b : Bool) → fails_with eexist b ≡ None → b ≡ false
+        not_taken true passes = absurd (cc passes)
+        not_taken false passes = refl
+    placed params (Err errno) params_is here given own = place_checks-rows ∙ own

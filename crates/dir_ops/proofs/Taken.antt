@@ -18,6 +18,7 @@ use Rattle.s3_rows.proofs.Passing.{first, second}
 use Rattle.s3_rows.proofs.Sorting.{is_equal, any_found, negated}
 use Rattle.s3_rows.proofs.Finding.{found_passes, found_any, any_follows, finds_itself}
 use Rattle.ref_counts.proofs.Named.{has_bytes}
+use Rattle.ref_counts.proofs.Told.{IfTold-weaker, IfTold-weaker2, IfTold-same}
 use Rattle.tree_rows.proofs.Listed.{is_entry}
 use Rattle.dir_ops.specs.Entries.{is_taken}
 
@@ -163,15 +164,14 @@ nothing_of : {X Y : Type 0} (f : X → Y) (found : Option X) → None ≡ option
 nothing_of f None is = refl
 nothing_of f (Some x) is = absurd (cc is)
 
-pub found_taken : (told after : Option Told) (bytes : List ℕ) (parent id : ℕ) (row : Option Content) (answer : Option ℕ) (b : Bool) → b ≡ is_some row → answer ≡ Some id → IfTold told IsValid
-    → IfTold told HasUniqueNames → after ≡ told → IfTold told (λ t. answer ≡ option_map (λ n. n.id) (name_of_bytes t bytes)) → IfTold after (λ t. row ≡ entry_at t parent id)
-    → IfTold told (λ t. b ≡ is_taken t parent bytes)
-found_taken None after bytes parent id row answer b is_b given v unique same is own = tt
-found_taken (Some s) after bytes parent id row answer b is_b given v unique same is own =
-    is_b ∙ taken_of s.tables bytes parent id row (name_of_bytes s.tables bytes) v unique refl (sym given ∙ is) (subst (λ x. IfTold x (λ t. row ≡ entry_at t parent id)) same own)
+pub found_taken : (told after : Option Told) (bytes : List ℕ) (parent id : ℕ) (row : Option Content) (answer : Option ℕ) (b : Bool) → b ≡ is_some row → answer ≡ Some id → after ≡ told
+    → IfTold told (λ t. answer ≡ option_map (λ n. n.id) (name_of_bytes t bytes)) → IfTold after (λ t. row ≡ entry_at t parent id) → IfTold told (λ t. IsValid t → HasUniqueNames t → b ≡ is_taken t parent bytes)
+found_taken told after bytes parent id row answer b is_b given same is own =
+    IfTold-weaker2 told (λ t. answer ≡ option_map (λ n. n.id) (name_of_bytes t bytes)) (λ t. row ≡ entry_at t parent id) _
+    (λ t named there v unique. is_b ∙ taken_of t bytes parent id row (name_of_bytes t bytes) v unique refl (sym given ∙ named) there) is (IfTold-same told after _ same own)
 
-pub found_free : (told : Option Told) (bytes : List ℕ) (parent : ℕ) (answer : Option ℕ) → answer ≡ None → IfTold told IsValid → IfTold told HasUniqueNames
-    → IfTold told (λ t. answer ≡ option_map (λ n. n.id) (name_of_bytes t bytes)) → IfTold told (λ t. false ≡ is_taken t parent bytes)
-found_free None bytes parent answer given v unique is = tt
-found_free (Some s) bytes parent answer given v unique is =
-    not_taken s.tables v unique bytes parent (nothing_of (λ (n : Name). n.id) (name_of_bytes s.tables bytes) (sym given ∙ is))
+pub found_free : (told : Option Told) (bytes : List ℕ) (parent : ℕ) (answer : Option ℕ) → answer ≡ None → IfTold told (λ t. answer ≡ option_map (λ n. n.id) (name_of_bytes t bytes))
+    → IfTold told (λ t. IsValid t → HasUniqueNames t → false ≡ is_taken t parent bytes)
+found_free told bytes parent answer given is =
+    IfTold-weaker told (λ t. answer ≡ option_map (λ n. n.id) (name_of_bytes t bytes)) _
+    (λ t named v unique. not_taken t v unique bytes parent (nothing_of (λ (n : Name). n.id) (name_of_bytes t bytes) (sym given ∙ named))) is

@@ -1,35 +1,37 @@
 //! The plan of a new file.
-ghost use Rattle.std.specs.Prelude.{◌≡◌, ◌<◌, ◌^◌, ◌++◌, ℕ, List, [], ◌∷◌, None, nat_le, IfOk, OnOk};
+ghost use Rattle.std.specs.Prelude.{◌≡◌, ◌<◌, ◌^◌, ◌++◌, ℕ, List, [], ◌∷◌, Some, None, nat_le, IfOk, OnOk};
 ghost use Rattle.s3_base.specs.Faults.{HasCause};
 ghost use Rattle.op_frames.specs.declared.operation.Op.TheVariants as ops;
 ghost use Rattle.op_frames.specs.declared.reply.Reply.TheVariants as replies;
 ghost use Rattle.plain_tree.specs.Tree.{Tree};
-ghost use Rattle.plain_tree.specs.Checks.{first_failure, name_check, mode_check};
+ghost use Rattle.plain_tree.specs.Checks.{fails_with, first_failure, name_check, mode_check};
+ghost use Rattle.s3_base.specs.Errors.{eexist, enospc};
 ghost use Rattle.s3_rows.specs.declared.change.Change.TheVariants as changes;
-ghost use Rattle.s3_rows.specs.Rows.{IsId};
+ghost use Rattle.s3_rows.specs.Rows.{IsId, Parameters};
 ghost use Rattle.s3_rows.specs.Tables.{Tables};
 ghost use Rattle.s3_rows.specs.Selections.{inode_at};
 ghost use Rattle.s3_rows.specs.Told.{IfTold, has_failed};
 ghost use Rattle.s3_rows.specs.Validity.{IsValid, HasUniqueNames};
 ghost use Rattle.tree_rows.specs.Attrs.{attr_of_row};
 ghost use Rattle.tree_rows.specs.Shapes.{Represents};
+ghost use Rattle.op_checks.specs.Checks.{Checks};
+ghost use Rattle.op_checks.specs.Rows.{row_check, directory_row_check, lock_row_check, ids_row_check};
 ghost use Rattle.ref_counts.specs.Handles.{HasHandles};
 ghost use Rattle.ref_counts.specs.Plans.{IsPlanOf, HasFitReply};
 ghost use Rattle.entry_rows.specs.Creation.{touched_row};
 ghost use Rattle.dir_ops.specs.Entries.{is_taken};
 ghost use Rattle.dir_ops.specs.Places.{IsPlace, IsPlaced, place_checks};
 
-use crate::checks::{check_mode, check_name};
 use crate::entries::has_entry;
+use op_checks::{
+    check_directory, check_free, check_hand, check_ids, check_mode, check_name, check_node,
+    check_unlocked,
+};
 use op_frames::Reply;
-use ref_counts::errno::{EEXIST, ENOENT, ENOSPC, ENOTDIR, EPERM};
 use ref_counts::{Handles, Plan, attr_of, name_up};
 use s3_base::{ByteList, Errno, Kind, Sequence};
 use s3_rows::{Batch, Change, ContentRow, InodeRow, Keeper, KeeperFault, Params};
 use std::alloc::{AllocError, Global};
-
-/// Inode numbers are below this.
-const LIMIT: u64 = 1 << 62;
 
 /// What a new file has, and the time of its making.
 #[derive(Clone, Copy, Debug)]
@@ -42,7 +44,30 @@ pub struct NewFile {
 
 /// The directory in which an entry is made, and the parameters, where no check fails: `taken` says that it has such an entry
 /// already, and `full` that no handle is left.
-fn check_directory(
+fn check_rows(
+    found: Option<InodeRow>,
+    taken: bool,
+    params: Option<Params>,
+    full: bool,
+) -> Result<(InodeRow, Params), Errno>
+    ensures next { IfOk result (λ place. place.1.next_inode < 2 ^ 62) }
+    ensures found { IfOk result (λ place. found ≡ Some place.0) }
+    ensures params { IfOk result (λ place. params ≡ Some place.1) }
+    ensures check { (p : Parameters) → params ≡ Some p → Checks result (first_failure (row_check found ∷ directory_row_check found ∷ lock_row_check found
+        ∷ fails_with eexist taken ∷ ids_row_check p 1 ∷ fails_with enospc full ∷ [])) }
+{
+    let directory = check_node(found)?;
+    check_directory(&directory)?;
+    check_unlocked(&directory)?;
+    check_free(taken)?;
+    let params = params.ok_or(Errno::ENOSPC)?;
+    check_ids(&params, 1)?;
+    check_hand(full)?;
+    Ok((directory, params))
+}
+
+/// The same, said of the tree.
+fn check_place(
     found: Option<InodeRow>,
     taken: bool,
     params: Option<Params>,
@@ -52,25 +77,7 @@ fn check_directory(
     ensures placed { (t : Tables) (whole : Tree) (parent : ℕ) (name : List ℕ) → IsValid t → Represents t whole → found ≡ inode_at t parent → taken ≡ is_taken t parent name
         → params ≡ t.params → full ≡ nat_le (2 ^ 62) whole.next_handle → IsPlaced t whole parent name result }
 {
-    let Some(directory) = found else {
-        return Err(ENOENT);
-    };
-    let Kind::Directory = directory.kind else {
-        return Err(ENOTDIR);
-    };
-    if directory.locked {
-        return Err(EPERM);
-    }
-    if taken {
-        return Err(EEXIST);
-    }
-    let Some(params) = params else {
-        return Err(ENOSPC);
-    };
-    if params.next_inode >= LIMIT || full {
-        return Err(ENOSPC);
-    }
-    Ok((directory, params))
+    check_rows(found, taken, params, full)
 }
 
 /// Adds the changes that put a new inode's row and its entry in a directory, which is touched.
@@ -127,9 +134,7 @@ fn make<K: Keeper>(
     requires mode { mode_check new.now.mode ≡ None }
     requires now { new.now.now < 2 ^ 62 }
     requires next { params.now.next_inode < 2 ^ 62 }
-    requires valid { IfTold (K.told keeper.old) IsValid }
-    requires unique { IfTold (K.told keeper.old) HasUniqueNames }
-    ensures plan { IfOk result (λ p. IfTold (K.told keeper.old) (λ t. (whole : Tree) (pass parent : ℕ) → Represents t whole → HasHandles handles.now whole
+    ensures plan { IfOk result (λ p. IfTold (K.told keeper.old) (λ t. IsValid t → HasUniqueNames t → (whole : Tree) (pass parent : ℕ) → Represents t whole → HasHandles handles.now whole
         → IsPlace t parent name.now directory.now params.now → first_failure (place_checks whole parent name.now) ≡ None
         → IsPlanOf t whole pass (ops.Create parent name.now new.entry.now.mode new.entry.now.uid new.entry.now.gid) new.entry.now.now p)) }
     ensures same { K.told keeper.new ≡ K.told keeper.old }
@@ -170,10 +175,8 @@ pub fn plan_create<K: Keeper>(
     name: &ByteList,
     new: &NewFile,
 ) -> Result<Plan, KeeperFault>
-    requires now { new.now.now < 2 ^ 62 }
-    requires valid { IfTold (K.told keeper.old) IsValid }
-    requires unique { IfTold (K.told keeper.old) HasUniqueNames }
-    ensures plan { IfOk result (λ p. IfTold (K.told keeper.old) (λ t. (whole : Tree) (pass : ℕ) → Represents t whole → HasHandles handles.now whole
+    requires { new.now.now < 2 ^ 62 }
+    ensures plan { IfOk result (λ p. IfTold (K.told keeper.old) (λ t. IsValid t → HasUniqueNames t → (whole : Tree) (pass : ℕ) → Represents t whole → HasHandles handles.now whole
         → IsPlanOf t whole pass (ops.Create parent name.now new.entry.now.mode new.entry.now.uid new.entry.now.gid) new.entry.now.now p)) }
     ensures same { K.told keeper.new ≡ K.told keeper.old }
     ensures cause { HasCause (K.faults keeper.old) (K.faults keeper.new) (has_failed result) }
@@ -188,7 +191,7 @@ pub fn plan_create<K: Keeper>(
     let found = keeper.inode(parent)?;
     let taken = has_entry(keeper, parent, name)?;
     let params = keeper.params()?;
-    match check_directory(found, taken, params, handles.is_full()) {
+    match check_place(found, taken, params, handles.is_full()) {
         Ok((directory, params)) => make(alloc, keeper, handles, &directory, &params, name, new),
         Err(errno) => Ok(Plan::Refuse(errno)),
     }

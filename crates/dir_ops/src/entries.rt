@@ -15,9 +15,7 @@ pub fn has_entry<K: Keeper>(
     parent: u64,
     name: &ByteList,
 ) -> Result<bool, KeeperFault>
-    requires valid { IfTold (K.told keeper.old) IsValid }
-    requires unique { IfTold (K.told keeper.old) HasUniqueNames }
-    ensures found { IfOk result (λ b. IfTold (K.told keeper.old) (λ t. b ≡ is_taken t parent name.now)) }
+    ensures found { IfOk result (λ b. IfTold (K.told keeper.old) (λ t. IsValid t → HasUniqueNames t → b ≡ is_taken t parent name.now)) }
     ensures same { K.told keeper.new ≡ K.told keeper.old }
     ensures cause { HasCause (K.faults keeper.old) (K.faults keeper.new) (has_failed result) }
 {

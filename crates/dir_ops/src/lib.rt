@@ -1,7 +1,6 @@
 //! Plans of the operations on entries of directories.
 #![tactic(auto)]
 
-mod checks;
 mod create;
 mod entries;
 mod plans;

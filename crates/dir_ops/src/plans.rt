@@ -28,9 +28,8 @@ pub fn plan<K: Keeper>(
 ) -> Result<Plan, KeeperFault>
     requires planned { IsTrue (is_planned op.now) }
     requires now { now < 2 ^ 62 }
-    requires valid { IfTold (K.told keeper.old) IsValid }
-    requires unique { IfTold (K.told keeper.old) HasUniqueNames }
-    ensures plan { IfOk result (λ p. IfTold (K.told keeper.old) (λ t. (whole : Tree) → Represents t whole → HasHandles handles.now whole → IsPlanOf t whole pass op.now now p)) }
+    ensures plan { IfOk result (λ p. IfTold (K.told keeper.old) (λ t. IsValid t → HasUniqueNames t
+        → (whole : Tree) → Represents t whole → HasHandles handles.now whole → IsPlanOf t whole pass op.now now p)) }
     ensures same { K.told keeper.new ≡ K.told keeper.old }
     ensures cause { HasCause (K.faults keeper.old) (K.faults keeper.new) (has_failed result) }
     ensures fit { IfOk result HasFitReply }

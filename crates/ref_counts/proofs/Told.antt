@@ -23,3 +23,7 @@ IfTold-weaker3 (Some s) P Q R S follows p q r = follows s.tables p q r
 -- a fact of what is told later, where the same is told
 pub IfTold-same : (told after : Option Told) (P : Tables → Type 0) → after ≡ told → IfTold after P → IfTold told P
 IfTold-same told after P same fact = subst (λ x. IfTold x P) same fact
+
+pub IfTold-weaker4 : (told : Option Told) (P Q R S X : Tables → Type 0) → ((t : Tables) → P t → Q t → R t → S t → X t) → IfTold told P → IfTold told Q → IfTold told R → IfTold told S → IfTold told X
+IfTold-weaker4 None P Q R S X follows p q r s = tt
+IfTold-weaker4 (Some now) P Q R S X follows p q r s = follows now.tables p q r s

@@ -1,0 +1,14 @@
+use Rattle.std.proofs.Common.{sym, subst}
+use Rattle.op_frames.specs.declared.operation.Op.{Op}
+use Rattle.ref_counts.specs.Plans.{IsPlanOf}
+use Rattle.ref_counts.proofs.Named.{if_ok}
+use Rattle.ref_counts.proofs.Told.{IfTold-weaker}
+use Rattle.dir_ops.proofs.plans.plan.Goals as goal
+
+pub returns-clause-plan : goal.returns-clause-plan
+returns-clause-plan g c =
+    if_ok _ _ (λ p own.
+    IfTold-weaker (g.K.Keeper.told c.args.keeper.now) _ _
+    (λ t planned v unique whole same has. subst (λ (op : Op). IsPlanOf t whole c.args.pass op c.args.now p) (sym c.in-Create.is) (planned v unique whole c.args.pass same has))
+    own)
+    c.plan_create.result c.plan_create.ensures.plan
