@@ -10,16 +10,16 @@ use Rattle.plain_tree.specs.Tree.{Tree}
 use Rattle.plain_tree.specs.Calls.{no_memory}
 use Rattle.plain_tree.specs.Checks.{first_failure}
 use Rattle.plain_tree.specs.Operations.{checks, effect, success, reply_to, tree_after}
-use Rattle.s3_rows.specs.Told.{Told, IfTold}
-use Rattle.ref_counts.specs.Plans.{keeps_rows}
+use Rattle.s3_rows.specs.Told.{Told}
+use Rattle.plain_tree.specs.Classes.{keeps_rows, names_drawn}
+use Rattle.ref_counts.specs.Plans.{is_fit}
 use Rattle.volume_core.specs.declared.refusal.Refusal.{Refusal}
 use Rattle.volume_core.specs.declared.refusal.Refusal.TheVariants.{Refused, Worn, Keeper, Memory}
 use Rattle.volume_core.specs.declared.row_core.RowCore.{RowCore}
-use Rattle.volume_core.specs.Answers.{keeper_failed, no_space, changes_rows, IsRowAnswer}
+use Rattle.volume_core.specs.Answers.{keeper_failed, no_space, is_keeper_fault, changes_rows, IsRowAnswer}
 use Rattle.plain_tree.specs.Built.{is_built, not_built}
-use Rattle.volume_core.specs.Standing.{AreServed, StandsFor, CanAnswer, IsToldAfter}
+use Rattle.volume_core.specs.Standing.{StandsFor, IsToldAfter}
 use Rattle.volume_core.specs.Refusals.{IsOutcome}
-use Rattle.volume_core.proofs.Standing.{fact_told}
 
 -- what the first failing check makes of reply and tree
 reply_at : (t : Tree) (pass now : ℕ) (op : Op) (failure : Option ℕ) → first_failure (checks t pass op) ≡ failure
@@ -42,10 +42,10 @@ module _ {K : Type 0} (told : K → Option Told) (before after : RowCore K) (who
   Answers reply = (next : Tree) × StandsFor told after next × IsRowAnswer risen (told before.keeper) (told after.keeper) whole call reply next
 
   abbrev rows_change : Option ℕ → Bool
-  rows_change failure = not (is_some failure) && not (keeps_rows op)
+  rows_change failure = not (is_some failure) && not (keeps_rows whole pass op)
 
   by_rules : (b : Bool) → is_built op ≡ b → IsTrue b → (failure : Option ℕ) → first_failure (checks whole pass op) ≡ failure → changes_rows whole call ≡ rows_change failure
-  by_rules true is built failure fails = ap (λ c. c && not (is_some (first_failure (checks whole pass op))) && not (keeps_rows op)) is ∙ ap rows_change fails
+  by_rules true is built failure fails = ap (λ c. c && not (is_some (first_failure (checks whole pass op))) && not (keeps_rows whole pass op)) is ∙ ap rows_change fails
   by_rules false is built failure fails = absurd (cc built)
 
   of_built : (A : Type 0) (x y : A) (b : Bool) → is_built op ≡ b → IsTrue b → cond (is_built op) x y ≡ x
@@ -61,7 +61,7 @@ module _ {K : Type 0} (told : K → Option Told) (before after : RowCore K) (who
       inl (
         o.1 ∙ sym (reply_at whole pass now op None o.0) ∙ sym (of_built Reply (reply_to whole pass op now) not_built true built refl),
         sym (tree_at whole pass now op None o.0) ∙ sym (of_built Tree (tree_after whole pass op now) whole true built refl),
-        subst (λ b. IsToldAfter b (told before.keeper) (told after.keeper)) (sym (by_rules true built refl None o.0)) o.3,
+        subst (λ b. IsToldAfter b (names_drawn whole op) (told before.keeper) (told after.keeper)) (sym (by_rules true built refl None o.0)) o.3,
         λ _ lacks. o.4 lacks.1,
       ),
     )
@@ -73,7 +73,7 @@ module _ {K : Type 0} (told : K → Option Told) (before after : RowCore K) (who
       inl (
         sym (reply_at whole pass now op (Some errno.0) o.0) ∙ sym (of_built Reply (reply_to whole pass op now) not_built true built refl),
         sym (tree_at whole pass now op (Some errno.0) o.0) ∙ sym (of_built Tree (tree_after whole pass op now) whole true built refl),
-        subst (λ b. IsToldAfter b (told before.keeper) (told after.keeper)) (sym (by_rules true built refl (Some errno.0) o.0)) o.1.1,
+        subst (λ b. IsToldAfter b (names_drawn whole op) (told before.keeper) (told after.keeper)) (sym (by_rules true built refl (Some errno.0) o.0)) o.1.1,
         λ _ lacks.
             let clash : Some errno.0 ≡ None = sym o.0 ∙ lacks.0 in
             cc clash,
@@ -99,7 +99,7 @@ module _ {K : Type 0} (told : K → Option Told) (before after : RowCore K) (who
           inl (
             ap replies.Errno number ∙ sym (ap (λ b. cond b (reply_to whole pass op now) not_built) unbuilt),
             sym (ap (λ b. cond b (tree_after whole pass op now) whole) unbuilt),
-            subst (λ b. IsToldAfter b (told before.keeper) (told after.keeper)) (sym (ap (λ b. b && not (is_some (first_failure (checks whole pass op))) && not (keeps_rows op)) unbuilt)) (ap (λ (c : RowCore K). told c.keeper) same),
+            subst (λ b. IsToldAfter b (names_drawn whole op) (told before.keeper) (told after.keeper)) (sym (ap (λ b. b && not (is_some (first_failure (checks whole pass op))) && not (keeps_rows whole pass op)) unbuilt)) (ap (λ (c : RowCore K). told c.keeper) same),
             λ built _.
                 let clash : IsTrue false = subst IsTrue unbuilt built in
                 cc clash,
@@ -114,31 +114,7 @@ module _ {K : Type 0} (told : K → Option Told) (before after : RowCore K) (who
       by_case true is = one is
       by_case false is = other is
 
--- some tree that the core stands for, where something is told
-abbrev SomeTree : {K : Type 0} → (K → Option Told) → RowCore K → Option Told → Type 0
-SomeTree told core x = elim x [ Some now ↦ (whole : Tree) × StandsFor told core whole | None ↦ Unit {0} ]
-
--- a core that can answer still can
-pub can_still : {K : Type 0} (told : K → Option Told) (before after : RowCore K) → CanAnswer told before → (told before.keeper ≡ None → told after.keeper ≡ None)
-    → ((whole : Tree) → StandsFor told before whole → (next : Tree) × StandsFor told after next) → CanAnswer told after
-can_still {K} told before after can untold goes = by_case (told before.keeper) refl can
-  where
-    there : (next : Tree) (x : Option Told) → told after.keeper ≡ x → StandsFor told after next → SomeTree told after x
-    there next None is s =
-        let clash : None ≡ Some s.now = sym is ∙ s.tells in
-        absurd (cc clash)
-    there next (Some now) is s = (next, s)
-
-    by_case : (x : Option Told) → told before.keeper ≡ x → SomeTree told before x → CanAnswer told after
-    by_case None is own = subst (λ (y : Option Told). SomeTree told after y) (sym (untold is)) tt
-    by_case (Some now) is own =
-        let later = goes own.0 own.1 in
-        there later.0 (told after.keeper) refl later.1
-
--- a core that can answer has served tables
-pub can_serve : {K : Type 0} (told : K → Option Told) (core : RowCore K) → CanAnswer told core → IfTold (told core.keeper) AreServed
-can_serve told core can = by_case (told core.keeper) refl can
-  where
-    by_case : (x : Option Told) → told core.keeper ≡ x → SomeTree told core x → IfTold (told core.keeper) AreServed
-    by_case None is own = subst (λ y. IfTold y AreServed) (sym is) tt
-    by_case (Some now) is own = fact_told (told core.keeper) own.1.now AreServed own.1.tells own.1.served
+-- a reply by the tree's rules is no fault
+pub no_fault : (reply : Reply) → IsTrue (is_fit reply) → is_keeper_fault reply ≡ false
+no_fault (replies.Fault cause) fit = absurd (cc fit)
+no_fault _ fit = refl

@@ -16,21 +16,20 @@ use Rattle.plain_tree.specs.Tree.{Content, Node, Tree, node_at, handle_of, chang
 use Rattle.plain_tree.specs.Attributes.{attr_of}
 use Rattle.plain_tree.specs.Checks.{first_failure, node_check, file_check, hand_check, open_check}
 use Rattle.plain_tree.specs.Files.{bytes_of, file_at, open_file}
-use Rattle.plain_tree.specs.Operations.{checks, effect, success, new_file, make_checks}
+use Rattle.plain_tree.specs.Operations.{checks, effect, success, attr_reply, new_file, make_checks}
 use Rattle.s3_rows.specs.Rows.{Inode}
 use Rattle.s3_rows.specs.Tables.{Tables}
 use Rattle.s3_rows.specs.Selections.{inode_at}
 use Rattle.s3_rows.specs.Validity.{IsValid}
 use Rattle.tree_rows.specs.Shapes.{Represents}
+use Rattle.op_checks.proofs.Nodes.{node_absent}
 use Rattle.tree_laws.proofs.Lookups.{numbers_tell, inserted_here, inserted_there}
-use Rattle.dir_ops.specs.Plans as dir_plans
-use Rattle.inode_ops.proofs.Opened.{released_is, left_is}
+use Rattle.inode_ops.proofs.Opened.{stays_released, released_is, stays_left, left_is}
 use Rattle.ref_counts.specs.Handles.{OpenHandles, HasHandles, opened, closed, closed_all}
 use Rattle.ref_counts.specs.Plans.{AreNamed}
 use Rattle.volume_core.specs.Files.{Files, bytes_at, HasBytes}
-use Rattle.volume_core.specs.Plans.{keeps_handles, inode_opened, handles_after}
+use Rattle.volume_core.specs.Plans.{is_by_plan, inode_opened, opened_by, closed_by}
 use Rattle.volume_core.proofs.Changed.{node_changed, next_kept, next_handle_kept, handles_kept, same_bytes}
-use Rattle.volume_core.proofs.Looking.{node_absent}
 
 -- ---- changes of a node that leave its bytes
 
@@ -43,31 +42,14 @@ module _ (f : Node → Node) (keeps : (node : Node) → bytes_of (f node).conten
   by_test true found = of_found found
   by_test false found = refl
 
-  pub file_same : (x : ℕ) → file_at (change_node inode f whole) x ≡ file_at whole x
+  file_same : (x : ℕ) → file_at (change_node inode f whole) x ≡ file_at whole x
   file_same x = ap (option_and_then (λ (node : Node). bytes_of node.content)) (node_changed f inode whole x) ∙ by_test (x == inode) (node_at whole x)
 
-  pub bytes_kept : (files : Files) → HasBytes files whole → HasBytes files (change_node inode f whole)
+  bytes_kept : (files : Files) → HasBytes files whole → HasBytes files (change_node inode f whole)
   bytes_kept files has = same_bytes files whole (change_node inode f whole) has (subst (λ n. whole.next_inode ≤ n) (sym (next_kept f inode whole)) (omega arith)) (λ x b is. sym (file_same x) ∙ is)
 
-  pub own_handles : (h : OpenHandles) → HasHandles h whole → HasHandles h (change_node inode f whole)
+  own_handles : (h : OpenHandles) → HasHandles h whole → HasHandles h (change_node inode f whole)
   own_handles h has = (next_handle_kept f inode whole ∙ has.0, handles_kept f inode whole ∙ has.1)
-
--- ---- operations that keep all handles
-
-pub kept_effect : (h : OpenHandles) (files : Files) (whole : Tree) (pass : ℕ) (op : Op) (now : ℕ) → IsTrue (keeps_handles op) → HasHandles h whole → HasBytes files whole
-    → HasHandles h (effect whole pass op now) × HasBytes files (effect whole pass op now)
-kept_effect h files whole pass (ops.Getattr inode) now is has bytes = (has, bytes)
-kept_effect h files whole pass (ops.Chmod inode mode) now is has bytes =
-    let f : Node → Node = λ node. stamped now (record node { mode = mode }) in
-    (own_handles f (λ node. refl) inode whole h has, bytes_kept f (λ node. refl) inode whole files bytes)
-kept_effect h files whole pass (ops.Chown inode uid gid) now is has bytes =
-    let f : Node → Node = λ node. stamped now (record node { uid = uid; gid = gid }) in
-    (own_handles f (λ node. refl) inode whole h has, bytes_kept f (λ node. refl) inode whole files bytes)
-kept_effect h files whole pass (ops.Utimes inode mtime) now is has bytes =
-    let f : Node → Node = λ node. stamped now (record node { mtime = mtime }) in
-    (own_handles f (λ node. refl) inode whole h has, bytes_kept f (λ node. refl) inode whole files bytes)
-kept_effect h files whole pass ops.Statfs now is has bytes = (has, bytes)
-kept_effect h files whole pass _ now is has bytes = absurd (cc is)
 
 -- ---- a new file
 
@@ -83,7 +65,7 @@ module _ (whole : Tree) (pass parent : ℕ) (name : List ℕ) (mode uid gid now 
   abbrev made : Tree
   made = with_node (new_file mode uid gid now) (with_handle (record { inode = whole.next_inode; pass = pass }) whole)
 
-  pub create_handles : (h : OpenHandles) → HasHandles h whole → HasHandles (opened (record { inode = whole.next_inode; pass = pass }) h) (effect whole pass (ops.Create parent name mode uid gid) now)
+  create_handles : (h : OpenHandles) → HasHandles h whole → HasHandles (opened (record { inode = whole.next_inode; pass = pass }) h) (effect whole pass (ops.Create parent name mode uid gid) now)
   create_handles h has =
       own_handles entered (λ node. named_bytes name whole.next_inode node.content) parent made (opened (record { inode = whole.next_inode; pass = pass }) h) (
         ap (λ n. n + 1) has.0,
@@ -91,7 +73,7 @@ module _ (whole : Tree) (pass parent : ℕ) (name : List ℕ) (mode uid gid now 
             ∙ ap (λ (hs : List (ℕ × tree.Handle)). insert_entry nat_cmp hs h.next (record { inode = whole.next_inode; pass = pass })) has.1,
       )
 
-  pub create_bytes : (files : Files) → HasBytes files whole → HasBytes files (effect whole pass (ops.Create parent name mode uid gid) now)
+  create_bytes : (files : Files) → HasBytes files whole → HasBytes files (effect whole pass (ops.Create parent name mode uid gid) now)
   create_bytes files has = bytes_kept entered (λ node. named_bytes name whole.next_inode node.content) parent made files (record { bytes = each; fresh = λ x above. has.fresh x (omega (arith, above)) })
     where
       by_number : (x : ℕ) (b : List ℕ) (d : Bool) → (x == whole.next_inode) ≡ d → file_at made x ≡ Some b → bytes_at files x ≡ b
@@ -118,16 +100,16 @@ last_fails [] (Some errno) is = absurd (cc is)
 last_fails (None ∷ xs) c is = last_fails xs c is
 last_fails (Some errno ∷ xs) c is = absurd (cc is)
 
-pub create_hand : (whole : Tree) (pass parent : ℕ) (name : List ℕ) (mode uid gid : ℕ) → first_failure (checks whole pass (ops.Create parent name mode uid gid)) ≡ None → hand_check whole ≡ None
+create_hand : (whole : Tree) (pass parent : ℕ) (name : List ℕ) (mode uid gid : ℕ) → first_failure (checks whole pass (ops.Create parent name mode uid gid)) ≡ None → hand_check whole ≡ None
 create_hand whole pass parent name mode uid gid passes = last_fails (make_checks whole parent name mode) (hand_check whole) passes
 
-pub open_hand : (whole : Tree) (pass inode : ℕ) → first_failure (checks whole pass (ops.Open inode)) ≡ None → hand_check whole ≡ None
+open_hand : (whole : Tree) (pass inode : ℕ) → first_failure (checks whole pass (ops.Open inode)) ≡ None → hand_check whole ≡ None
 open_hand whole pass inode passes = last_fails (node_check (node_at whole inode) ∷ file_check (node_at whole inode) ∷ []) (hand_check whole) passes
 
 -- ---- Open
 
-pub open_handles : (whole : Tree) (pass inode now : ℕ) (h : OpenHandles) → HasHandles h whole → first_failure (checks whole pass (ops.Open inode)) ≡ None
-    → HasHandles (handles_after (inode_opened (success whole pass (ops.Open inode) now)) pass h) (effect whole pass (ops.Open inode) now)
+open_handles : (whole : Tree) (pass inode now : ℕ) (h : OpenHandles) → HasHandles h whole → first_failure (checks whole pass (ops.Open inode)) ≡ None
+    → HasHandles (opened_by (inode_opened (success whole pass (ops.Open inode) now)) pass h) (effect whole pass (ops.Open inode) now)
 open_handles whole pass inode now h has passes = by_node (node_at whole inode) refl
   where
     with_it : HasHandles (opened (record { inode = inode; pass = pass }) h) (effect whole pass (ops.Open inode) now)
@@ -136,14 +118,14 @@ open_handles whole pass inode now h has passes = by_node (node_at whole inode) r
       ap (λ n. insert_entry nat_cmp whole.handles n (record { inode = inode; pass = pass })) has.0 ∙ ap (λ (hs : List (ℕ × tree.Handle)). insert_entry nat_cmp hs h.next (record { inode = inode; pass = pass })) has.1,
     )
 
-    by_node : (found : Option Node) → node_at whole inode ≡ found → HasHandles (handles_after (inode_opened (success whole pass (ops.Open inode) now)) pass h) (effect whole pass (ops.Open inode) now)
+    by_node : (found : Option Node) → node_at whole inode ≡ found → HasHandles (opened_by (inode_opened (success whole pass (ops.Open inode) now)) pass h) (effect whole pass (ops.Open inode) now)
     by_node None is =
         let clash : Some 2 ≡ None = sym (ap (λ (n : Option Node). first_failure (node_check n ∷ file_check n ∷ hand_check whole ∷ [])) is) ∙ passes in
         absurd (cc clash)
     by_node (Some node) is =
         let reply : success whole pass (ops.Open inode) now ≡ replies.Opened whole.next_handle (attr_of whole inode node) =
         ap (λ (n : Option Node). let r : Reply = elim n [ Some found ↦ replies.Opened whole.next_handle (attr_of whole inode found) | None ↦ replies.Done ] in r) is in
-        subst (λ (r : Reply). HasHandles (handles_after (inode_opened r) pass h) (effect whole pass (ops.Open inode) now)) (sym reply) with_it
+        subst (λ (r : Reply). HasHandles (opened_by (inode_opened r) pass h) (effect whole pass (ops.Open inode) now)) (sym reply) with_it
 
 -- ---- Release and Leave
 
@@ -162,26 +144,73 @@ module _ (t : Tables) (whole : Tree) (v : IsValid t) (same : Represents t whole)
             ap (option_and_then (λ (x : tree.Handle). file_at whole x.inode)) here
             ∙ ap (option_and_then (λ (node : Node). bytes_of node.content)) (node_absent t whole same handle.inode there)
             ))
-        by_row handle here (Some r) there = released_is t whole pass number now same handle here r v all_named there
+        by_row handle here (Some r) there =
+            released_is t whole pass number now v same all_named handle here (stays_released t whole pass number now v same all_named handle here r there)
 
         by_handle : (found : Option tree.Handle) → handle_of whole pass number ≡ found → effect whole pass (ops.Release number) now ≡ without_handle number whole
         by_handle None here = absurd (no_file (open_file whole pass number) passes (ap (option_and_then (λ (x : tree.Handle). file_at whole x.inode)) here))
         by_handle (Some handle) here = by_row handle here (inode_at t handle.inode) refl
 
-    pub release_effect : HasHandles (closed number h) (effect whole pass (ops.Release number) now) × HasBytes files (effect whole pass (ops.Release number) now)
+    release_effect : HasHandles (closed number h) (effect whole pass (ops.Release number) now) × HasBytes files (effect whole pass (ops.Release number) now)
     release_effect =
         subst (λ (next : Tree). HasHandles (closed number h) next × HasBytes files next) (sym released)
         ((has.0, ap (remove_entry (is_at (nat_cmp number))) has.1), record { bytes = bytes.bytes; fresh = bytes.fresh })
 
-  pub leave_effect : HasHandles (closed_all pass h) (effect whole pass ops.Leave now) × HasBytes files (effect whole pass ops.Leave now)
+  leave_effect : HasHandles (closed_all pass h) (effect whole pass ops.Leave now) × HasBytes files (effect whole pass ops.Leave now)
   leave_effect =
-      subst (λ (next : Tree). HasHandles (closed_all pass h) next × HasBytes files next) (sym (left_is t whole pass now v same all_named))
+      subst (λ (next : Tree). HasHandles (closed_all pass h) next × HasBytes files next) (sym (left_is whole pass now (stays_left t whole pass v same all_named)))
       ((has.0, ap (filter (λ (e : ℕ × tree.Handle). not (e.1.pass == pass))) has.1), record { bytes = bytes.bytes; fresh = bytes.fresh })
 
--- the one operation on entries that is planned
-pub is_create : (op : Op) → IsTrue (dir_plans.is_planned op) → (parent : ℕ) × (name : List ℕ) × (mode : ℕ) × (uid : ℕ) × (gid : ℕ) × (op ≡ ops.Create parent name mode uid gid)
-is_create (ops.Create parent name mode uid gid) is = (parent, name, mode, uid, gid, refl)
-is_create _ is = absurd (cc is)
+  -- ---- all of them
+
+  -- What an operation that is carried out by its plan makes of handles and bytes, where no check fails. It opens a file only where a
+  -- handle number is left.
+  pub record Fulfils (op : Op) : Type 0 where
+    pub hand : (inode : ℕ) → inode_opened (success whole pass op now) ≡ Some inode → hand_check whole ≡ None
+    pub handles : HasHandles (closed_by pass op (opened_by (inode_opened (success whole pass op now)) pass h)) (effect whole pass op now)
+    pub has_bytes : HasBytes files (effect whole pass op now)
+
+  not_opened : (x : Tree) (inode : ℕ) → inode_opened (attr_reply x inode) ≡ None
+  not_opened x inode = by_node (node_at x inode)
+    where
+      by_node : (found : Option Node) → inode_opened (elim found as (λ _. Reply) [ Some node ↦ replies.Attr (attr_of x inode node) | None ↦ replies.Done ]) ≡ None
+      by_node None = refl
+      by_node (Some node) = refl
+
+  -- nothing is opened or closed
+  keeps : (op : Op) → inode_opened (success whole pass op now) ≡ None → closed_by pass op h ≡ h → HasHandles h (effect whole pass op now) → HasBytes files (effect whole pass op now) → Fulfils op
+  keeps op none open_still handles kept = record {
+    hand = λ inode some. let clash : None ≡ Some inode = sym none ∙ some in absurd (cc clash);
+    handles = subst (λ (x : OpenHandles). HasHandles x (effect whole pass op now)) (sym (ap (λ o. closed_by pass op (opened_by o pass h)) none ∙ open_still)) handles;
+    has_bytes = kept;
+  }
+
+  -- one node is changed, and its bytes are not
+  changes : (op : Op) (f : Node → Node) (inode : ℕ) → ((node : Node) → bytes_of (f node).content ≡ bytes_of node.content) → effect whole pass op now ≡ change_node inode f whole
+      → success whole pass op now ≡ attr_reply (effect whole pass op now) inode → closed_by pass op h ≡ h → Fulfils op
+  changes op f inode same_bytes does gives open_still =
+      keeps op (ap inode_opened gives ∙ not_opened (effect whole pass op now) inode) open_still
+      (subst (HasHandles h) (sym does) (own_handles f same_bytes inode whole h has)) (subst (HasBytes files) (sym does) (bytes_kept f same_bytes inode whole files bytes))
+
+  pub fulfils : (op : Op) → IsTrue (is_by_plan op) → first_failure (checks whole pass op) ≡ None → Fulfils op
+  fulfils (ops.Getattr inode) is passes = keeps (ops.Getattr inode) (not_opened whole inode) refl has bytes
+  fulfils (ops.Chmod inode mode) is passes = changes (ops.Chmod inode mode) (λ node. stamped now (record node { mode = mode })) inode (λ node. refl) refl refl refl
+  fulfils (ops.Chown inode uid gid) is passes = changes (ops.Chown inode uid gid) (λ node. stamped now (record node { uid = uid; gid = gid })) inode (λ node. refl) refl refl refl
+  fulfils (ops.Utimes inode mtime) is passes = changes (ops.Utimes inode mtime) (λ node. stamped now (record node { mtime = mtime })) inode (λ node. refl) refl refl refl
+  fulfils ops.Statfs is passes = keeps ops.Statfs refl refl has bytes
+  fulfils (ops.Create parent name mode uid gid) is passes = record {
+    hand = λ inode some. create_hand whole pass parent name mode uid gid passes;
+    handles = create_handles whole pass parent name mode uid gid now h has;
+    has_bytes = create_bytes whole pass parent name mode uid gid now files bytes;
+  }
+  fulfils (ops.Open inode) is passes = record {
+    hand = λ x some. open_hand whole pass inode passes;
+    handles = open_handles whole pass inode now h has passes;
+    has_bytes = record { bytes = bytes.bytes; fresh = bytes.fresh };
+  }
+  fulfils (ops.Release number) is passes = record { hand = λ inode some. absurd (cc some); handles = (release_effect number passes).0; has_bytes = (release_effect number passes).1 }
+  fulfils ops.Leave is passes = record { hand = λ inode some. absurd (cc some); handles = leave_effect.0; has_bytes = leave_effect.1 }
+  fulfils _ is passes = absurd (cc is)
 
 -- the data of a write in a frame fit into one frame
 pub short_write : (handle offset : ℕ) (bytes : List ℕ) → IsTrue (is_op (ops.Write handle offset bytes)) → length bytes ≤ 131072

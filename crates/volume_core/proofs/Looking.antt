@@ -1,46 +1,25 @@
 -- Rows of files and the nodes that they stand for.
-use Rattle.std.proofs.Common.{◌≡◌, ℕ, List, ◌∷◌, length, Bool, true, false, Option, None, Some, refl, sym, ap, ◌∙◌}
-use Rattle.std.specs.Prelude.{option_map, option_and_then, unwrap_or}
+use Rattle.std.proofs.Common.{◌≡◌, ℕ, List, [], ◌∷◌, length, Bool, true, false, Option, None, Some, refl, sym, ap, ◌∙◌}
+use Rattle.std.specs.Prelude.{not, option_map, option_and_then}
+use Rattle.s3_base.specs.Errors.{ebadf}
 use Rattle.s3_base.specs.declared.node_kind.Kind.{Kind}
 use Rattle.s3_base.specs.declared.node_kind.Kind.TheVariants as kinds
 use Rattle.plain_tree.specs.Tree as tree
 use Rattle.plain_tree.specs.Tree.{Node, Tree, node_at, handle_of}
-use Rattle.plain_tree.specs.Checks.{fails_with, first_failure, node_check, file_check, lock_check}
+use Rattle.plain_tree.specs.Checks.{fails_with, first_failure, node_check, file_check, lock_check, open_check}
 use Rattle.plain_tree.specs.Files.{bytes_of, file_at, open_file, inode_of}
-use Rattle.s3_rows.specs.Rows.{Inode, Parameters}
+use Rattle.s3_rows.specs.Rows.{Inode}
 use Rattle.s3_rows.specs.Tables.{Tables}
 use Rattle.s3_rows.specs.Selections.{inode_at}
-use Rattle.s3_rows.specs.Validity.{IsValid, is_regular}
-use Rattle.tree_rows.specs.Shapes.{ContentShape, Regular, Directory, Link, NodeShape, TreeShape, shape_of_content, shape_of_node, node_of_row, Represents}
-use Rattle.tree_rows.proofs.Shaped.{found_alike}
+use Rattle.s3_rows.specs.Validity.{is_regular}
+use Rattle.tree_rows.specs.Shapes.{NodeShape, shape_of_content, Represents}
 use Rattle.tree_rows.proofs.Whole.{content_of_kind, number_of}
+use Rattle.op_checks.specs.Rows.{row_check, file_row_check, lock_row_check, open_row_check}
+use Rattle.op_checks.proofs.Nodes.{node_absent, node_there, node_check-row, file_check-row, lock_check-row, open_check-row}
 use Rattle.ref_counts.specs.Handles.{OpenHandles, HasHandles, inode_open}
-use Rattle.volume_core.specs.Rows.{file_failure, is_file_row, row_of}
+use Rattle.volume_core.specs.Rows.{row_of}
 
 -- ---- contents by their kinds
-
--- what kind a shape has
-kind_of_shape : ContentShape → Kind
-kind_of_shape (Regular size) = kinds.Regular
-kind_of_shape (Directory entries) = kinds.Directory
-kind_of_shape (Link target) = kinds.Link
-
-abbrev checked : tree.Content → Option ℕ
-checked content = elim content [ tree.Regular bytes ↦ None | tree.Directory entries ↦ Some 21 | tree.Link target ↦ Some 22 ]
-
-abbrev kind_failure : Kind → Option ℕ
-kind_failure kind = elim kind [ kinds.Directory ↦ Some 21 | kinds.Link ↦ Some 22 | kinds.Regular ↦ None ]
-
-checked_as : (t : Tables) (r : Inode) (kind : Kind) (content : tree.Content) → shape_of_content content ≡ content_of_kind t r kind → checked content ≡ kind_failure kind
-checked_as t r kinds.Regular (tree.Regular bytes) is = refl
-checked_as t r kinds.Regular (tree.Directory entries) is = absurd (cc is)
-checked_as t r kinds.Regular (tree.Link target) is = absurd (cc is)
-checked_as t r kinds.Directory (tree.Regular bytes) is = absurd (cc is)
-checked_as t r kinds.Directory (tree.Directory entries) is = refl
-checked_as t r kinds.Directory (tree.Link target) is = absurd (cc is)
-checked_as t r kinds.Link (tree.Regular bytes) is = absurd (cc is)
-checked_as t r kinds.Link (tree.Directory entries) is = absurd (cc is)
-checked_as t r kinds.Link (tree.Link target) is = refl
 
 -- the bytes of a regular file
 file_of : (t : Tables) (r : Inode) (content : tree.Content) → shape_of_content content ≡ content_of_kind t r kinds.Regular → (bytes : List ℕ) × (bytes_of content ≡ Some bytes) × (length bytes ≡ r.size)
@@ -59,58 +38,34 @@ no_file_of t r kinds.Link (tree.Regular bytes) is other = absurd (cc is)
 no_file_of t r kinds.Link (tree.Directory entries) is other = refl
 no_file_of t r kinds.Link (tree.Link target) is other = refl
 
-kind_is : (kind : Kind) → is_regular kind ≡ true → kind ≡ kinds.Regular
+pub kind_is : (kind : Kind) → is_regular kind ≡ true → kind ≡ kinds.Regular
 kind_is kinds.Regular is = refl
 kind_is kinds.Directory is = absurd (cc is)
 kind_is kinds.Link is = absurd (cc is)
 
+-- a kind that passes is that of a regular file
+pub open_kind : (kind : Kind) → fails_with ebadf (not (is_regular kind)) ≡ None → is_regular kind ≡ true
+open_kind kinds.Regular passes = refl
+open_kind kinds.Directory passes = absurd (cc passes)
+open_kind kinds.Link passes = absurd (cc passes)
+
+-- there is a row, of a regular file
+abbrev pub is_file_row : Option Inode → Bool
+is_file_row None = false
+is_file_row (Some r) = is_regular r.kind
+
 -- ---- nodes of rows
 
-node_shaped : (found : Option Node) (s : NodeShape) → option_map shape_of_node found ≡ Some s → (node : Node) × (found ≡ Some node) × (shape_of_node node ≡ s)
-node_shaped None s is = absurd (cc is)
-node_shaped (Some node) s is =
-    let same : shape_of_node node ≡ s = cc is in
-    (node, refl, same)
-
-no_node : (found : Option Node) → option_map shape_of_node found ≡ None → found ≡ None
-no_node None is = refl
-no_node (Some node) is = absurd (cc is)
-
 module _ (t : Tables) (whole : Tree) (same : Represents t whole) (x : ℕ) where
-  pub node_there : (r : Inode) → inode_at t x ≡ Some r → (node : Node) × (node_at whole x ≡ Some node) × (shape_of_node node ≡ node_of_row t r)
-  node_there r is = node_shaped (node_at whole x) (node_of_row t r) (found_alike t whole same x ∙ ap (option_map (node_of_row t)) is)
-
-  pub node_absent : inode_at t x ≡ None → node_at whole x ≡ None
-  node_absent is = no_node (node_at whole x) (found_alike t whole same x ∙ ap (option_map (node_of_row t)) is)
-
   -- the checks on a file that is to be changed
-  pub file_checks : (rest : List (Option ℕ)) → first_failure (node_check (node_at whole x) ∷ file_check (node_at whole x) ∷ lock_check (node_at whole x) ∷ rest)
-      ≡ first_failure (file_failure (inode_at t x) ∷ rest)
-  file_checks rest = by_row (inode_at t x) refl
-    where
-      by_kind : (kind : Kind) (locked : Bool) → first_failure (kind_failure kind ∷ fails_with 1 locked ∷ rest)
-          ≡ first_failure ((elim kind [ kinds.Directory ↦ Some 21 | kinds.Link ↦ Some 22 | kinds.Regular ↦ fails_with 1 locked ]) ∷ rest)
-      by_kind kinds.Directory locked = refl
-      by_kind kinds.Link locked = refl
-      by_kind kinds.Regular locked = refl
-
-      by_row : (found : Option Inode) → inode_at t x ≡ found → first_failure (node_check (node_at whole x) ∷ file_check (node_at whole x) ∷ lock_check (node_at whole x) ∷ rest)
-          ≡ first_failure (file_failure found ∷ rest)
-      by_row None is = ap (λ (n : Option Node). first_failure (node_check n ∷ file_check n ∷ lock_check n ∷ rest)) (node_absent is)
-      by_row (Some r) is =
-          let found = node_there r is in
-          let node : Node = found.0 in
-          let content : checked node.content ≡ kind_failure r.kind = checked_as t r r.kind node.content (ap (λ (s : NodeShape). s.content) found.2) in
-          let lock : node.locked ≡ r.locked = ap (λ (s : NodeShape). s.locked) found.2 in
-          ap (λ (n : Option Node). first_failure (node_check n ∷ file_check n ∷ lock_check n ∷ rest)) found.1
-          ∙ ap (λ (c : Option ℕ). first_failure (c ∷ fails_with 1 node.locked ∷ rest)) content
-          ∙ ap (λ b. first_failure (kind_failure r.kind ∷ fails_with 1 b ∷ rest)) lock
-          ∙ by_kind r.kind r.locked
+  pub file_checks-row : (rest : List (Option ℕ)) → first_failure (node_check (node_at whole x) ∷ file_check (node_at whole x) ∷ lock_check (node_at whole x) ∷ rest)
+      ≡ first_failure (row_check (inode_at t x) ∷ file_row_check (inode_at t x) ∷ lock_row_check (inode_at t x) ∷ rest)
+  file_checks-row rest = λ i. first_failure (node_check-row t whole same x i ∷ file_check-row t whole same x i ∷ lock_check-row t whole same x i ∷ rest)
 
   -- the bytes of a file that has a row
   pub file_there : (r : Inode) → inode_at t x ≡ Some r → is_regular r.kind ≡ true → (bytes : List ℕ) × (file_at whole x ≡ Some bytes) × (length bytes ≡ r.size)
   file_there r is regular =
-      let found = node_there r is in
+      let found = node_there t whole same x r is in
       let node : Node = found.0 in
       let shape : shape_of_content node.content ≡ content_of_kind t r kinds.Regular = ap (λ (s : NodeShape). s.content) found.2 ∙ ap (content_of_kind t r) (kind_is r.kind regular) in
       let file = file_of t r node.content shape in
@@ -120,15 +75,24 @@ module _ (t : Tables) (whole : Tree) (same : Represents t whole) (x : ℕ) where
   no_file other = by_row (inode_at t x) refl other
     where
       by_row : (found : Option Inode) → inode_at t x ≡ found → is_file_row found ≡ false → file_at whole x ≡ None
-      by_row None is none = ap (option_and_then (λ (n : Node). bytes_of n.content)) (node_absent is)
+      by_row None is none = ap (option_and_then (λ (n : Node). bytes_of n.content)) (node_absent t whole same x is)
       by_row (Some r) is none =
-          let found = node_there r is in
+          let found = node_there t whole same x r is in
           let node : Node = found.0 in
           ap (option_and_then (λ (n : Node). bytes_of n.content)) found.1 ∙ no_file_of t r r.kind node.content (ap (λ (s : NodeShape). s.content) found.2) none
 
--- the next inode number of tables that represent a tree
-pub next_is : (t : Tables) (whole : Tree) (v : IsValid t) → Represents t whole → v.params.next_inode ≡ whole.next_inode
-next_is t whole v same = ap (λ (p : Option Parameters). unwrap_or (option_map (λ (q : Parameters). q.next_inode) p) 0) (sym v.is_made) ∙ ap (λ (s : TreeShape). s.next_inode) same
+-- where the first checks end so, all of them do
+pub checks_end : (a b c : Option ℕ) (rest : List (Option ℕ)) (errno : ℕ) → first_failure (a ∷ b ∷ c ∷ []) ≡ Some errno → first_failure (a ∷ b ∷ c ∷ rest) ≡ Some errno
+checks_end (Some e) b c rest errno is = is
+checks_end None (Some e) c rest errno is = is
+checks_end None None (Some e) rest errno is = is
+checks_end None None None rest errno is = absurd (cc is)
+
+pub checks_pass : (a b c : Option ℕ) (rest : List (Option ℕ)) → first_failure (a ∷ b ∷ c ∷ []) ≡ None → first_failure (a ∷ b ∷ c ∷ rest) ≡ first_failure rest
+checks_pass (Some e) b c rest is = absurd (cc is)
+checks_pass None (Some e) c rest is = absurd (cc is)
+checks_pass None None (Some e) rest is = absurd (cc is)
+checks_pass None None None rest is = refl
 
 -- ---- open files
 
@@ -163,9 +127,14 @@ module _ (t : Tables) (whole : Tree) (same : Represents t whole) (h : OpenHandle
             size = file.2;
           }
 
-  pub none_open : is_file_row (row_of t (inode_open h pass handle)) ≡ false → open_file whole pass handle ≡ None
-  none_open none = by_handle (handle_of whole pass handle) refl (ap (λ i. is_file_row (row_of t i)) own ∙ none)
+  -- the check of a handle is that of its inode's row
+  pub handle_check-row : open_check (open_file whole pass handle) ≡ open_row_check (row_of t (inode_open h pass handle))
+  handle_check-row = by_handle (handle_of whole pass handle) refl ∙ ap (λ i. open_row_check (row_of t i)) own
     where
-      by_handle : (found : Option tree.Handle) → handle_of whole pass handle ≡ found → is_file_row (row_of t (option_map (λ (x : tree.Handle). x.inode) found)) ≡ false → open_file whole pass handle ≡ None
-      by_handle None here other = ap (option_and_then (λ (y : tree.Handle). file_at whole y.inode)) here
-      by_handle (Some x) here other = ap (option_and_then (λ (y : tree.Handle). file_at whole y.inode)) here ∙ no_file t whole same x.inode other
+      by_handle : (found : Option tree.Handle) → handle_of whole pass handle ≡ found
+          → open_check (option_and_then (λ (y : tree.Handle). file_at whole y.inode) (handle_of whole pass handle)) ≡ open_row_check (row_of t (option_map (λ (x : tree.Handle). x.inode) (handle_of whole pass handle)))
+      by_handle None here = (λ i. open_check (option_and_then (λ (y : tree.Handle). file_at whole y.inode) (here i))) ∙ sym (λ i. open_row_check (row_of t (option_map (λ (x : tree.Handle). x.inode) (here i))))
+      by_handle (Some x) here =
+          ap (λ (f : Option tree.Handle). open_check (option_and_then (λ (y : tree.Handle). file_at whole y.inode) f)) here
+          ∙ open_check-row t whole same x.inode
+          ∙ sym (ap (λ (f : Option tree.Handle). open_row_check (row_of t (option_map (λ (y : tree.Handle). y.inode) f))) here)

@@ -1,5 +1,5 @@
 -- A core that was just opened.
-use Rattle.std.proofs.Common.{◌≡◌, ℕ, zero, suc, List, [], ◌∷◌, ◌++◌, length, Bool, true, false, Option, None, Some, refl, sym, ap, ◌∙◌, subst, arith, eqb-true}
+use Rattle.std.proofs.Common.{◌≡◌, ℕ, zero, suc, List, [], ◌∷◌, length, Bool, true, false, Option, None, Some, refl, sym, ap, ◌∙◌, subst, arith, eqb-true}
 use Rattle.std.specs.Prelude.{IsTrue, ◌==◌, ◌||◌, not, option_map, unwrap_or}
 use Rattle.std.specs.List.{list_all}
 use Rattle.plain_tree.specs.Tree.{Tree}
@@ -9,7 +9,7 @@ use Rattle.s3_rows.specs.Rows.{Inode, Parameters}
 use Rattle.s3_rows.specs.Keyed.{has_key}
 use Rattle.s3_rows.specs.Tables.{Tables, by_inode}
 use Rattle.s3_rows.specs.Selections.{inode_at}
-use Rattle.s3_rows.specs.Told.{Told, with_batch}
+use Rattle.s3_rows.specs.Told.{Told, one_more, with_batch}
 use Rattle.s3_rows.specs.Validity.{IsValid, root, is_directory, is_regular, parent_of, leads_to_root, is_below_root}
 use Rattle.s3_rows.proofs.Finding.{found_all}
 use Rattle.s3_rows.proofs.Passing.{all_pass}
@@ -18,9 +18,8 @@ use Rattle.ref_counts.specs.Handles.{no_handles}
 use Rattle.volume_core.specs.declared.row_core.RowCore.{RowCore}
 use Rattle.volume_core.specs.Files.{Files, HasBytes}
 use Rattle.volume_core.specs.Opening.{AreReady, IsOpened, IsMounting, mounted}
-use Rattle.volume_core.specs.Rows.{is_file_row}
 use Rattle.volume_core.specs.Standing.{StandsFor}
-use Rattle.volume_core.proofs.Looking.{file_there, no_file}
+use Rattle.volume_core.proofs.Looking.{is_file_row, file_there, no_file}
 
 -- ---- tables with other parameters
 
@@ -140,7 +139,7 @@ opened told core s whole ready same start mounting handles files =
     let own : Some p ≡ Some v.params = sym mounting.1 ∙ v.is_made in
     let params : mounted p ≡ mounted v.params = cc own in
     record {
-      now = record { tables = served s.tables v; batches = s.batches ++ (changes.SetParams (mounted v.params) ∷ []) ∷ [] };
+      now = record { tables = served s.tables v; commits = one_more s.commits };
       tells = mounting.3 ∙ ap (λ (q : Parameters). Some (with_batch (changes.SetParams q ∷ []) s)) params;
       served = record {
         valid = served_valid s.tables v;

@@ -1,6 +1,6 @@
 -- Operations on the bytes of one file, over its row.
-use Rattle.std.proofs.Common.{◌≡◌, ◌<◌, ◌^◌, ℕ, List, [], ◌∷◌, length, Bool, true, false, not, cond, Option, None, Some, Ok, Err, refl, sym, ap, ◌∙◌, subst, arith, ltb-true}
-use Rattle.std.specs.Prelude.{IsTrue, ◌==◌, nat_lt, option_map}
+use Rattle.std.proofs.Common.{◌≡◌, ◌<◌, ◌^◌, ℕ, List, [], ◌∷◌, length, Bool, true, false, Option, None, Some, Ok, Err, refl, sym, ap, ◌∙◌, subst, arith, ltb-true}
+use Rattle.std.specs.Prelude.{IsTrue, nat_lt, option_map}
 use Rattle.s3_base.specs.declared.errors.Errno.{Errno}
 use Rattle.s3_base.specs.declared.node_kind.Kind.{Kind}
 use Rattle.s3_base.specs.declared.node_kind.Kind.TheVariants as kinds
@@ -20,64 +20,43 @@ use Rattle.s3_rows.specs.Batches.{after_change, tables_after}
 use Rattle.s3_rows.specs.Selections.{inode_at}
 use Rattle.s3_rows.specs.Told.{Told, IfTold, with_batch}
 use Rattle.s3_rows.specs.Validity.{is_regular}
-use Rattle.std.specs.Cmp.{nat_cmp_total, tied_itself}
-use Rattle.std.specs.Ordering.{is_eq}
-use Rattle.s3_rows.proofs.Sorting.{row_at-put}
 use Rattle.s3_rows.proofs.Finding.{found_all}
-use Rattle.s3_rows.proofs.Replacing.{all_put, resized_valid}
+use Rattle.s3_rows.proofs.Replacing.{resized_valid}
 use Rattle.tree_rows.specs.Attrs.{attr_of_row}
 use Rattle.tree_rows.specs.Shapes.{ContentShape, Regular, NodeShape, shape_of_content, node_of_row, Represents}
 use Rattle.tree_rows.proofs.Attributed.{attr_is}
 use Rattle.tree_rows.proofs.Replaced.{replaced_represents}
 use Rattle.tree_rows.proofs.Whole.{content_of_kind, number_of}
 use Rattle.ref_counts.specs.Plans.{IsStep, IsWorn}
+use Rattle.op_checks.specs.Rows.{row_check, file_row_check, lock_row_check}
+use Rattle.op_checks.proofs.Nodes.{next_inode-row}
+use Rattle.inode_ops.proofs.Planned.{replaced, put_there}
 use Rattle.volume_core.specs.declared.refusal.Refusal.{Refusal}
 use Rattle.volume_core.specs.declared.refusal.Refusal.TheVariants.{Refused, Worn, Keeper, Memory}
 use Rattle.volume_core.specs.declared.row_core.RowCore.{RowCore}
 use Rattle.volume_core.specs.Files.{bytes_at, IsChanged}
-use Rattle.volume_core.specs.Rows.{file_failure, IsFileRow, IsFound}
+use Rattle.volume_core.specs.Rows.{file_checks, IsCheckedRow, IsFound}
 use Rattle.volume_core.specs.Standing.{AreServed, StandsFor, IsToldAfter}
 use Rattle.volume_core.specs.Refusals.{IsStill, IsOutcome}
 use Rattle.volume_core.proofs.Changed.{length-resized, next_handle_kept, handles_kept, changed_file, bytes_changed_alike}
-use Rattle.volume_core.proofs.Looking.{file_checks, file_there, next_is}
+use Rattle.volume_core.proofs.Looking.{kind_is, file_checks-row, file_there, checks_end, checks_pass}
 use Rattle.volume_core.proofs.Standing.{told_fact, stepped, told_after}
 
 -- ---- the tables after a new row of a file
 
-put_there : (t : Tables) (new : Inode) → inode_at (after_change (changes.PutInode new) t) new.id ≡ Some new
-put_there t new = row_at-put by_inode nat_cmp_total new.id new t.inodes ∙ ap (λ c. cond (is_eq c) (Some new) (inode_at t new.id)) (tied_itself nat_cmp_total new.id)
-
 -- a regular file's row of the same number, kind and count, and the node that it stands for
-pub resized_step : (t : Tables) (whole next : Tree) (r new : Inode) → AreServed t → inode_at t new.id ≡ Some r → new.kind ≡ r.kind → new.refcount ≡ r.refcount → new.kind ≡ kinds.Regular
-    → Represents (after_change (changes.PutInode new) t) next → IsStep t (tables_after (changes.PutInode new ∷ []) t) next
-resized_step t whole next r new s there kind count regular same = record {
-  valid = resized_valid t r new s.valid there kind count regular s.inode_blocks s.slots;
-  represents = same;
-  unique = λ u. u;
-  named = λ all.
-      all_put by_inode (λ y. not (y.refcount == 0)) new t.inodes (ap (λ n. not (n == 0)) count ∙ found_all (has_key by_inode new.id) (λ y. not (y.refcount == 0)) t.inodes r all there) all;
-  params = refl;
-  inode_blocks = refl;
-  blocks = refl;
-  objects = refl;
-  slots = refl;
-  names = omega arith;
-  uses = omega arith;
-}
+resized_step : (t : Tables) (whole next : Tree) (drawn : ℕ) (r new : Inode) → AreServed t → inode_at t new.id ≡ Some r → new.kind ≡ r.kind → new.refcount ≡ r.refcount → new.kind ≡ kinds.Regular
+    → Represents (after_change (changes.PutInode new) t) next → IsStep t (tables_after (changes.PutInode new ∷ []) t) next drawn
+resized_step t whole next drawn r new s there kind count regular same = replaced t next drawn r new there count (resized_valid t r new s.valid there kind count regular s.inode_blocks s.slots) same
 
-regular_of : (r : Inode) → file_failure (Some r) ≡ None → (is_regular r.kind ≡ true) × (r.locked ≡ false)
+regular_of : (r : Inode) → file_checks (Some r) ≡ None → (is_regular r.kind ≡ true) × (r.locked ≡ false)
 regular_of r passes = by_kind r.kind r.locked passes
   where
-    by_kind : (kind : Kind) (locked : Bool) → file_failure (Some (record r { kind = kind; locked = locked })) ≡ None → (is_regular kind ≡ true) × (locked ≡ false)
+    by_kind : (kind : Kind) (locked : Bool) → file_checks (Some (record r { kind = kind; locked = locked })) ≡ None → (is_regular kind ≡ true) × (locked ≡ false)
     by_kind kinds.Directory locked is = absurd (cc is)
     by_kind kinds.Link locked is = absurd (cc is)
     by_kind kinds.Regular true is = absurd (cc is)
     by_kind kinds.Regular false is = (refl, refl)
-
-pub kind_is : (kind : Kind) → is_regular kind ≡ true → kind ≡ kinds.Regular
-kind_is kinds.Regular is = refl
-kind_is kinds.Directory is = absurd (cc is)
-kind_is kinds.Link is = absurd (cc is)
 
 -- the shape of a file whose bytes are changed
 resized_shape : (t : Tables) (r : Inode) (content : tree.Content) (g : List ℕ → List ℕ) (size : ℕ) → shape_of_content content ≡ content_of_kind t r kinds.Regular
@@ -88,7 +67,7 @@ resized_shape t r (tree.Regular bytes) g size is long =
 resized_shape t r (tree.Directory entries) g size is long = absurd (cc is)
 resized_shape t r (tree.Link target) g size is long = absurd (cc is)
 
-module _ {K : Type 0} (told : K → Option Told) (before after : RowCore K) (whole : Tree) (s : StandsFor told before whole) (r : Inode) (size now : ℕ) (g : List ℕ → List ℕ)
+module _ {K : Type 0} (told : K → Option Told) (before after : RowCore K) (whole : Tree) (s : StandsFor told before whole) (r : Inode) (size now drawn : ℕ) (g : List ℕ → List ℕ)
     (there : inode_at s.now.tables r.id ≡ Some r) (regular : r.kind ≡ kinds.Regular) (long : (bytes : List ℕ) → length bytes ≡ r.size → length (g bytes) ≡ size) where
   abbrev t : Tables
   t = s.now.tables
@@ -106,25 +85,25 @@ module _ {K : Type 0} (told : K → Option Told) (before after : RowCore K) (who
       ap (λ (x : NodeShape). record x { mtime = now; ctime = now; content = shape_of_content (with_bytes g node.content) }) shape
       ∙ ap (λ (c : ContentShape). record (node_of_row t new) { content = c }) changed)
 
-  step : IsStep t (tables_after (changes.PutInode new ∷ []) t) next
-  step = resized_step t whole next r new s.served there refl refl regular represents
+  step : IsStep t (tables_after (changes.PutInode new ∷ []) t) next drawn
+  step = resized_step t whole next drawn r new s.served there refl refl regular represents
 
   below : r.id < whole.next_inode
   below =
       let in_use : IsTrue (nat_lt r.id s.served.valid.params.next_inode) = found_all (has_key by_inode r.id) (λ y. nat_lt y.id s.served.valid.params.next_inode) t.inodes r s.served.valid.free.inodes there in
-      let number : s.served.valid.params.next_inode ≡ whole.next_inode = next_is t whole s.served.valid s.represents in
+      let number : whole.next_inode ≡ s.served.valid.params.next_inode = next_inode-row t whole s.served.valid.params s.represents s.served.valid.is_made in
       omega (arith, ltb-true r.id s.served.valid.params.next_inode in_use, number)
 
   module _ (committed : told after.keeper ≡ option_map (with_batch (changes.PutInode new ∷ [])) (told before.keeper)) (handles : after.handles ≡ before.handles)
       (files : IsChanged r.id g before.files after.files) where
     pub stands : StandsFor told after next
-    stands = stepped told before after whole next (changes.PutInode new ∷ []) s step committed (
+    stands = stepped told before after whole next (changes.PutInode new ∷ []) drawn s step committed (
       next_handle_kept (changed_file g now r.id whole) r.id whole ∙ s.handles.0 ∙ ap (λ h. h.next) (sym handles),
       handles_kept (changed_file g now r.id whole) r.id whole ∙ s.handles.1 ∙ ap (λ h. h.handles) (sym handles),
     ) (bytes_changed_alike g now r.id whole before.files after.files s.bytes below files)
 
-    pub is_told : IsToldAfter true (told before.keeper) (told after.keeper)
-    is_told = told_after (changes.PutInode new ∷ []) false (told before.keeper) (told after.keeper) s.now next refl committed s.tells step
+    pub is_told : IsToldAfter true drawn (told before.keeper) (told after.keeper)
+    is_told = told_after (changes.PutInode new ∷ []) false drawn (told before.keeper) (told after.keeper) s.now next refl committed s.tells step
 
   pub reply_is : r.refcount < 2 ^ 62 → attr_reply next r.id ≡ replies.Attr (attr_of_row new)
   reply_is few = attr_is (after_change (changes.PutInode new) t) next r.id new step.valid represents (put_there t new) few
@@ -133,21 +112,21 @@ module _ {K : Type 0} (told : K → Option Told) (before after : RowCore K) (who
 
 module _ {K : Type 0} (told : K → Option Told) (before after : RowCore K) (whole : Tree) (s : StandsFor told before whole) (pass inode size now : ℕ) where
   -- the row was not found
-  pub truncate_refused : (refusal : Refusal) → IfTold (told before.keeper) (λ t. IsFound (IsFileRow (inode_at t inode)) (Err refusal)) → IsStill told before after whole
+  pub truncate_refused : (refusal : Refusal) → IfTold (told before.keeper) (λ t. IsFound (IsCheckedRow file_checks (inode_at t inode)) (Err refusal)) → IsStill told before after whole
       → IsOutcome told before after whole pass (ops.Truncate inode size) now (Err refusal)
   truncate_refused (Refused errno) found still =
-      let failure : file_failure (inode_at s.now.tables inode) ≡ Some errno.0 = told_fact (told before.keeper) s.now (λ t. IsFound (IsFileRow (inode_at t inode)) (Err (Refused errno))) s.tells found in
-      (file_checks s.now.tables whole s.represents inode (size_check size ∷ []) ∙ ap (λ (c : Option ℕ). first_failure (c ∷ size_check size ∷ [])) failure, still)
-  truncate_refused Worn found still = absurd (told_fact (told before.keeper) s.now (λ t. IsFound (IsFileRow (inode_at t inode)) (Err Worn)) s.tells found)
+      let failure : file_checks (inode_at s.now.tables inode) ≡ Some errno.0 = told_fact (told before.keeper) s.now (λ t. IsFound (IsCheckedRow file_checks (inode_at t inode)) (Err (Refused errno))) s.tells found in
+      (file_checks-row s.now.tables whole s.represents inode (size_check size ∷ []) ∙ checks_end (row_check (inode_at s.now.tables inode)) (file_row_check (inode_at s.now.tables inode)) (lock_row_check (inode_at s.now.tables inode)) (size_check size ∷ []) errno.0 failure, still)
+  truncate_refused Worn found still = absurd (told_fact (told before.keeper) s.now (λ t. IsFound (IsCheckedRow file_checks (inode_at t inode)) (Err Worn)) s.tells found)
   truncate_refused Keeper found still = still
   truncate_refused Memory found still = still
 
-  module _ (r : Inode) (found : IfTold (told before.keeper) (λ t. IsFound (IsFileRow (inode_at t inode)) (Ok r))) where
-    row : (inode_at s.now.tables inode ≡ Some r) × (file_failure (inode_at s.now.tables inode) ≡ None)
-    row = told_fact (told before.keeper) s.now (λ t. IsFound (IsFileRow (inode_at t inode)) (Ok r)) s.tells found
+  module _ (r : Inode) (found : IfTold (told before.keeper) (λ t. IsFound (IsCheckedRow file_checks (inode_at t inode)) (Ok r))) where
+    row : (inode_at s.now.tables inode ≡ Some r) × (file_checks (inode_at s.now.tables inode) ≡ None)
+    row = told_fact (told before.keeper) s.now (λ t. IsFound (IsCheckedRow file_checks (inode_at t inode)) (Ok r)) s.tells found
 
     checked : first_failure (checks whole pass (ops.Truncate inode size)) ≡ first_failure (size_check size ∷ [])
-    checked = file_checks s.now.tables whole s.represents inode (size_check size ∷ []) ∙ ap (λ (c : Option ℕ). first_failure (c ∷ size_check size ∷ [])) row.1
+    checked = file_checks-row s.now.tables whole s.represents inode (size_check size ∷ []) ∙ checks_pass (row_check (inode_at s.now.tables inode)) (file_row_check (inode_at s.now.tables inode)) (lock_row_check (inode_at s.now.tables inode)) (size_check size ∷ []) row.1
 
     pub too_long : (errno : Errno) → size_check size ≡ Some errno.0 → IsStill told before after whole → IsOutcome told before after whole pass (ops.Truncate inode size) now (Err (Refused errno))
     too_long errno over still = (checked ∙ ap (λ (c : Option ℕ). first_failure (c ∷ [])) over, still)
@@ -159,7 +138,7 @@ module _ {K : Type 0} (told : K → Option Told) (before after : RowCore K) (who
     there = ap (inode_at s.now.tables) (sym number) ∙ row.0
 
     facts : (is_regular r.kind ≡ true) × (r.locked ≡ false)
-    facts = regular_of r (sym (ap file_failure row.0) ∙ row.1)
+    facts = regular_of r (sym (ap file_checks row.0) ∙ row.1)
 
     pub truncated : r.refcount < 2 ^ 62 → size_check size ≡ None → told after.keeper ≡ option_map (with_batch (changes.PutInode (record r { size = size; mtime = now; ctime = now }) ∷ [])) (told before.keeper)
         → after.handles ≡ before.handles → IsChanged r.id (resized size) before.files after.files
@@ -167,14 +146,14 @@ module _ {K : Type 0} (told : K → Option Told) (before after : RowCore K) (who
     truncated few fits committed handles files =
         let regular : r.kind ≡ kinds.Regular = kind_is r.kind facts.0 in
         let long : (bytes : List ℕ) → length bytes ≡ r.size → length (resized size bytes) ≡ size = λ bytes is. length-resized size bytes in
-        let stands_next : StandsFor told after (next told before after whole s r size now (resized size) there regular long) =
-        stands told before after whole s r size now (resized size) there regular long committed handles files in
-        let reply = reply_is told before after whole s r size now (resized size) there regular long few in (
+        let stands_next : StandsFor told after (next told before after whole s r size now 0 (resized size) there regular long) =
+        stands told before after whole s r size now 0 (resized size) there regular long committed handles files in
+        let reply = reply_is told before after whole s r size now 0 (resized size) there regular long few in (
           checked ∙ ap (λ (c : Option ℕ). first_failure (c ∷ [])) fits,
           sym (subst (λ x. attr_reply (effect whole pass (ops.Truncate x size) now) x ≡ replies.Attr (attr_of_row (record r { size = size; mtime = now; ctime = now }))) (sym number) reply),
           subst (λ x. StandsFor told after (effect whole pass (ops.Truncate x size) now)) (sym number) stands_next,
-          is_told told before after whole s r size now (resized size) there regular long committed handles files,
-          told_fact (told before.keeper) s.now (λ t. IsWorn t (ops.Truncate inode size)) s.tells,
+          is_told told before after whole s r size now 0 (resized size) there regular long committed handles files,
+          told_fact (told before.keeper) s.now (λ t. IsWorn t whole (ops.Truncate inode size)) s.tells,
         )
 
     -- the same with the row as the code has it

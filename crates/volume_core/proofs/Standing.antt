@@ -9,10 +9,10 @@ use Rattle.s3_rows.specs.Batches.{tables_after}
 use Rattle.s3_rows.specs.Told.{Told, IfTold, with_batch}
 use Rattle.plain_tree.specs.Tree.{Tree}
 use Rattle.ref_counts.specs.Handles.{HasHandles}
-use Rattle.ref_counts.specs.Plans.{IsStep, settings}
+use Rattle.ref_counts.specs.Plans.{IsStep, LeavesRest, IsSmall, settings}
 use Rattle.volume_core.specs.declared.row_core.RowCore.{RowCore}
 use Rattle.volume_core.specs.Files.{AreSame, HasBytes}
-use Rattle.volume_core.specs.Standing.{AreServed, IsMounted, StandsFor, IsCommitted, IsSmall, IsToldAfter}
+use Rattle.volume_core.specs.Standing.{AreServed, IsMounted, StandsFor, IsCommitted, IsToldAfter}
 use Rattle.op_frames.specs.declared.operation.Op.{Op}
 use Rattle.op_frames.specs.declared.reply.Reply.{Reply}
 use Rattle.s3_rows.specs.declared.keeper.KeeperFault.{KeeperFault}
@@ -57,17 +57,17 @@ state_kept (Some p) (Some q) state same is =
     let equal : settings q ≡ settings p = cc same in
     ap (λ (x : Parameters). Some x.state) equal ∙ is
 
-pub served_after : (t after : Tables) (next : Tree) → AreServed t → IsStep t after next → AreServed after
-served_after t after next s step = record {
+pub served_after : (t after : Tables) (next : Tree) (drawn : ℕ) → AreServed t → IsStep t after next drawn → AreServed after
+served_after t after next drawn s step = record {
   valid = step.valid;
   unique = step.unique s.unique;
   named = step.named s.named;
-  inode_blocks = step.inode_blocks ∙ s.inode_blocks;
-  slots = step.slots ∙ s.slots;
+  inode_blocks = step.rest.inode_blocks ∙ s.inode_blocks;
+  slots = step.rest.slots ∙ s.slots;
 }
 
-mounted_after : (t after : Tables) (next : Tree) → IsMounted t → IsStep t after next → IsMounted after
-mounted_after t after next is step = state_kept t.params after.params _ step.params is
+mounted_after : (t after : Tables) (next : Tree) (drawn : ℕ) → IsMounted t → IsStep t after next drawn → IsMounted after
+mounted_after t after next drawn is step = state_kept t.params after.params _ step.rest.params is
 
 -- what is told after a batch that was committed
 pub committed_told : (batch : List Change) (before after : Option Told) (s : Told) → IsCommitted batch before after → before ≡ Some s → (t : Told) × (after ≡ Some t) × (t.tables ≡ tables_after batch s.tables)
@@ -75,32 +75,32 @@ committed_told [] before after s is tells = (s, is ∙ tells, refl)
 committed_told (c ∷ cs) before after s is tells = (with_batch (c ∷ cs) s, is ∙ ap (option_map (with_batch (c ∷ cs))) tells, refl)
 
 -- a batch was committed that makes the tables represent another tree, whose handles and bytes the core has
-pub stepped : {K : Type 0} (told : K → Option Told) (before after : RowCore K) (whole next : Tree) (batch : List Change) (s : StandsFor told before whole)
-    → IsStep s.now.tables (tables_after batch s.now.tables) next → IsCommitted batch (told before.keeper) (told after.keeper) → HasHandles after.handles next → HasBytes after.files next
+pub stepped : {K : Type 0} (told : K → Option Told) (before after : RowCore K) (whole next : Tree) (batch : List Change) (drawn : ℕ) (s : StandsFor told before whole)
+    → IsStep s.now.tables (tables_after batch s.now.tables) next drawn → IsCommitted batch (told before.keeper) (told after.keeper) → HasHandles after.handles next → HasBytes after.files next
     → StandsFor told after next
-stepped told before after whole next batch s step committed handles bytes =
+stepped told before after whole next batch drawn s step committed handles bytes =
     let later = committed_told batch (told before.keeper) (told after.keeper) s.now committed s.tells in
-    let is : IsStep s.now.tables later.0.tables next = subst (λ (t : Tables). IsStep s.now.tables t next) (sym later.2) step in
+    let is : IsStep s.now.tables later.0.tables next drawn = subst (λ (t : Tables). IsStep s.now.tables t next drawn) (sym later.2) step in
     record {
       now = later.0;
       tells = later.1;
-      served = served_after s.now.tables later.0.tables next s.served is;
-      mounted = mounted_after s.now.tables later.0.tables next s.mounted is;
+      served = served_after s.now.tables later.0.tables next drawn s.served is;
+      mounted = mounted_after s.now.tables later.0.tables next drawn s.mounted is;
       represents = is.represents;
       handles = handles;
       bytes = bytes;
     }
 
 -- a batch is told where it has a change
-pub told_after : (batch : List Change) (keeps : Bool) (before after : Option Told) (s : Told) (next : Tree) → (length batch == 0) ≡ keeps → IsCommitted batch before after → before ≡ Some s
-    → IsStep s.tables (tables_after batch s.tables) next → IsToldAfter (not keeps) before after
-told_after [] true before after s next empty committed tells step = committed
-told_after [] false before after s next empty committed tells step =
+pub told_after : (batch : List Change) (keeps : Bool) (drawn : ℕ) (before after : Option Told) (s : Told) (next : Tree) → (length batch == 0) ≡ keeps → IsCommitted batch before after → before ≡ Some s
+    → IsStep s.tables (tables_after batch s.tables) next drawn → IsToldAfter (not keeps) drawn before after
+told_after [] true drawn before after s next empty committed tells step = committed
+told_after [] false drawn before after s next empty committed tells step =
     let clash : true ≡ false = empty in
     absurd (cc clash)
-told_after (c ∷ cs) true before after s next empty committed tells step = absurd (omega (arith, eqb-true (length (c ∷ cs)) 0 empty))
-told_after (c ∷ cs) false before after s next empty committed tells step =
-    (c ∷ cs, committed, fact_told before s (λ t. IsSmall t (tables_after (c ∷ cs) t)) tells (record { names = step.names; uses = step.uses }))
+told_after (c ∷ cs) true drawn before after s next empty committed tells step = absurd (omega (arith, eqb-true (length (c ∷ cs)) 0 empty))
+told_after (c ∷ cs) false drawn before after s next empty committed tells step =
+    (c ∷ cs, committed, fact_told before s (λ t. LeavesRest t (tables_after (c ∷ cs) t) × IsSmall drawn t (tables_after (c ∷ cs) t)) tells (step.rest, step.small))
 
 -- ---- answers
 

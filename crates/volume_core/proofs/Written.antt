@@ -21,12 +21,14 @@ use Rattle.volume_core.specs.declared.refusal.Refusal.{Refusal}
 use Rattle.volume_core.specs.declared.refusal.Refusal.TheVariants.{Refused, Worn, Keeper, Memory}
 use Rattle.volume_core.specs.declared.row_core.RowCore.{RowCore}
 use Rattle.volume_core.specs.Files.{bytes_at, IsChanged}
-use Rattle.volume_core.specs.Rows.{is_file_row, IsOpenRow, row_of, IsFound}
+use Rattle.volume_core.specs.Rows.{IsCheckedRow, row_of, IsFound}
 use Rattle.volume_core.specs.Standing.{StandsFor, IsToldAfter}
 use Rattle.volume_core.specs.Refusals.{IsStill, IsOutcome}
 use Rattle.volume_core.proofs.Changed.{length-written, changed_file}
-use Rattle.volume_core.proofs.Looking.{IsOpenFile, open_there, none_open, node_there}
-use Rattle.volume_core.proofs.Resized.{kind_is, next, stands, is_told}
+use Rattle.volume_core.proofs.Looking.{IsOpenFile, kind_is, open_kind, open_there, handle_check-row}
+use Rattle.op_checks.specs.Rows.{open_row_check}
+use Rattle.op_checks.proofs.Nodes.{node_there}
+use Rattle.volume_core.proofs.Resized.{next, stands, is_told}
 use Rattle.volume_core.proofs.Standing.{told_fact}
 
 positive_length : (bytes : List ℕ) → (length bytes == 0) ≡ false → 0 < length bytes
@@ -38,22 +40,24 @@ module _ {K : Type 0} (told : K → Option Told) (before after : RowCore K) (who
   t = s.now.tables
 
   abbrev Finds : Result Inode Refusal → Tables → Type 0
-  Finds result tables = IsFound (IsOpenRow (row_of tables (inode_open before.handles pass handle))) result
+  Finds result tables = IsFound (IsCheckedRow open_row_check (row_of tables (inode_open before.handles pass handle))) result
 
-  none_there : (errno : Errno) → IfTold (told before.keeper) (Finds (Err (Refused errno))) → (open_file whole pass handle ≡ None) × (errno.0 ≡ 9)
-  none_there errno found =
-      let none : (is_file_row (row_of t (inode_open before.handles pass handle)) ≡ false) × (errno.0 ≡ 9) = told_fact (told before.keeper) s.now (Finds (Err (Refused errno))) s.tells found in
-      (none_open t whole s.represents before.handles s.handles pass handle none.0, none.1)
+  -- the handle is refused as the row is
+  none_there : (errno : Errno) → IfTold (told before.keeper) (Finds (Err (Refused errno))) → open_check (open_file whole pass handle) ≡ Some errno.0
+  none_there errno found = handle_check-row t whole s.represents before.handles s.handles pass handle ∙ told_fact (told before.keeper) s.now (Finds (Err (Refused errno))) s.tells found
+
+  row_there : (r : Inode) → IfTold (told before.keeper) (Finds (Ok r)) → (row_of t (inode_open before.handles pass handle) ≡ Some r) × (is_regular r.kind ≡ true)
+  row_there r found =
+      let row : (row_of t (inode_open before.handles pass handle) ≡ Some r) × (open_row_check (row_of t (inode_open before.handles pass handle)) ≡ None) = told_fact (told before.keeper) s.now (Finds (Ok r)) s.tells found in
+      (row.0, open_kind r.kind (sym (ap open_row_check row.0) ∙ row.1))
 
   pub file_open : (r : Inode) → IfTold (told before.keeper) (Finds (Ok r)) → IsOpenFile t whole pass handle r
   file_open r found =
-      let row : (row_of t (inode_open before.handles pass handle) ≡ Some r) × (is_regular r.kind ≡ true) = told_fact (told before.keeper) s.now (Finds (Ok r)) s.tells found in
+      let row = row_there r found in
       open_there t whole s.represents before.handles s.handles pass handle r row.0 row.1
 
-  regular_row : (r : Inode) → IfTold (told before.keeper) (Finds (Ok r)) → r.kind ≡ kinds.Regular
-  regular_row r found =
-      let row : (row_of t (inode_open before.handles pass handle) ≡ Some r) × (is_regular r.kind ≡ true) = told_fact (told before.keeper) s.now (Finds (Ok r)) s.tells found in
-      kind_is r.kind row.1
+  pub regular_row : (r : Inode) → IfTold (told before.keeper) (Finds (Ok r)) → r.kind ≡ kinds.Regular
+  regular_row r found = kind_is r.kind (row_there r found).1
 
   -- the bytes in memory are as many as the row says
   pub kept_size : (r : Inode) → IfTold (told before.keeper) (Finds (Ok r)) → length (bytes_at before.files r.id) ≡ r.size
@@ -70,10 +74,7 @@ module _ {K : Type 0} (told : K → Option Told) (before after : RowCore K) (who
     pub read_refused : (refusal : Refusal) → read_length_check count ≡ None → IfTold (told before.keeper) (Finds (Err refusal)) → IsStill told before after whole
         → IsOutcome told before after whole pass (ops.Read handle offset count) now (Err refusal)
     read_refused (Refused errno) fits found still =
-        let none = none_there errno found in (
-          ap (λ (c : Option ℕ). first_failure (c ∷ open_check (open_file whole pass handle) ∷ [])) fits ∙ ap (λ (f : Option (List ℕ)). first_failure (open_check f ∷ [])) none.0 ∙ ap Some (sym none.1),
-          still,
-        )
+        (ap (λ (c : Option ℕ). first_failure (c ∷ open_check (open_file whole pass handle) ∷ [])) fits ∙ ap (λ (c : Option ℕ). first_failure (c ∷ [])) (none_there errno found), still)
     read_refused Worn fits found still = absurd (told_fact (told before.keeper) s.now (Finds (Err Worn)) s.tells found)
     read_refused Keeper fits found still = still
     read_refused Memory fits found still = still
@@ -86,7 +87,7 @@ module _ {K : Type 0} (told : K → Option Told) (before after : RowCore K) (who
           ap replies.Bytes is ∙ ap (λ (b : List ℕ). replies.Bytes (read_at offset count b)) (s.bytes.bytes r.id o.bytes o.file ∙ ap (λ (f : Option (List ℕ)). unwrap_or f []) (sym o.opened)),
           still.0,
           still.1,
-          told_fact (told before.keeper) s.now (λ t. IsWorn t (ops.Read handle offset count)) s.tells,
+          told_fact (told before.keeper) s.now (λ t. IsWorn t whole (ops.Read handle offset count)) s.tells,
         )
 
   -- ---- Write
@@ -96,9 +97,7 @@ module _ {K : Type 0} (told : K → Option Told) (before after : RowCore K) (who
     lock = lock_check (node_at whole (inode_of (handle_of whole pass handle)))
 
     pub write_refused : (refusal : Refusal) → IfTold (told before.keeper) (Finds (Err refusal)) → IsStill told before after whole → IsOutcome told before after whole pass (ops.Write handle offset bytes) now (Err refusal)
-    write_refused (Refused errno) found still =
-        let none = none_there errno found in
-        (ap (λ (f : Option (List ℕ)). first_failure (open_check f ∷ lock ∷ write_end_check offset bytes ∷ [])) none.0 ∙ ap Some (sym none.1), still)
+    write_refused (Refused errno) found still = (ap (λ (c : Option ℕ). first_failure (c ∷ lock ∷ write_end_check offset bytes ∷ [])) (none_there errno found), still)
     write_refused Worn found still = absurd (told_fact (told before.keeper) s.now (Finds (Err Worn)) s.tells found)
     write_refused Keeper found still = still
     write_refused Memory found still = still
@@ -145,8 +144,8 @@ module _ {K : Type 0} (told : K → Option Told) (before after : RowCore K) (who
             passes,
             ap replies.Count (sym (eqb-true (length bytes) 0 empty)),
             subst (λ (next : Tree). StandsFor told after next) (sym (effect_is true empty)) still.0,
-            subst (λ b. IsToldAfter (not b) (told before.keeper) (told after.keeper)) (sym empty) still.1,
-            told_fact (told before.keeper) s.now (λ t. IsWorn t (ops.Write handle offset bytes)) s.tells,
+            subst (λ b. IsToldAfter (not b) 0 (told before.keeper) (told after.keeper)) (sym empty) still.1,
+            told_fact (told before.keeper) s.now (λ t. IsWorn t whole (ops.Write handle offset bytes)) s.tells,
           )
 
           pub written : (length bytes == 0) ≡ false
@@ -154,15 +153,15 @@ module _ {K : Type 0} (told : K → Option Told) (before after : RowCore K) (who
               → after.handles ≡ before.handles → IsChanged r.id (written_at offset bytes) before.files after.files → IsOutcome told before after whole pass (ops.Write handle offset bytes) now (Ok (replies.Count (length bytes)))
           written some committed handles files =
               let positive : 0 < length bytes = positive_length bytes some in
-              let at_row : changed ≡ next told before after whole s r (max r.size (offset + length bytes)) now (written_at offset bytes) o.row (regular_row r found) (long_enough r.size positive) =
+              let at_row : changed ≡ next told before after whole s r (max r.size (offset + length bytes)) now 0 (written_at offset bytes) o.row (regular_row r found) (long_enough r.size positive) =
               ap (λ x. change_node x (changed_file (written_at offset bytes) now r.id whole) whole) o.inode in (
                 passes,
                 refl,
                 subst (λ (x : Tree). StandsFor told after x) (sym (effect_is false some ∙ at_row))
-                    (stands told before after whole s r (max r.size (offset + length bytes)) now (written_at offset bytes) o.row (regular_row r found) (long_enough r.size positive) committed handles files),
-                subst (λ b. IsToldAfter (not b) (told before.keeper) (told after.keeper)) (sym some)
-                    (is_told told before after whole s r (max r.size (offset + length bytes)) now (written_at offset bytes) o.row (regular_row r found) (long_enough r.size positive) committed handles files),
-                told_fact (told before.keeper) s.now (λ t. IsWorn t (ops.Write handle offset bytes)) s.tells,
+                    (stands told before after whole s r (max r.size (offset + length bytes)) now 0 (written_at offset bytes) o.row (regular_row r found) (long_enough r.size positive) committed handles files),
+                subst (λ b. IsToldAfter (not b) 0 (told before.keeper) (told after.keeper)) (sym some)
+                    (is_told told before after whole s r (max r.size (offset + length bytes)) now 0 (written_at offset bytes) o.row (regular_row r found) (long_enough r.size positive) committed handles files),
+                told_fact (told before.keeper) s.now (λ t. IsWorn t whole (ops.Write handle offset bytes)) s.tells,
               )
 
           -- the same with the numbers as the code has them

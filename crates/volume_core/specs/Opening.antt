@@ -1,5 +1,5 @@
 -- When a core may be opened.
-use Rattle.std.specs.Prelude.{◌≡◌, ◌==◌, ◌||◌, not, [], ◌∷◌, IsTrue, Option, None, Some}
+use Rattle.std.specs.Prelude.{◌≡◌, ◌==◌, Bool, true, false, ◌||◌, not, [], ◌∷◌, IsTrue, Option, None, Some}
 use Rattle.std.specs.List.{list_all}
 use Rattle.plain_tree.specs.Tree.{Tree}
 use Rattle.s3_rows.specs.declared.change.Change.TheVariants as changes
@@ -29,6 +29,13 @@ mounted p = record p { state = states.Mounted }
 abbrev pub IsMounting : Told → Option Told → Type 0
 IsMounting before after =
     (p : Parameters) × (before.tables.params ≡ Some p) × (p.state ≡ states.Clean) × (after ≡ Some (with_batch (changes.SetParams (mounted p) ∷ []) before))
+
+-- the refusal by which the keeper has failed
+abbrev pub is_keeper_fault : OpenFault → Bool
+is_keeper_fault faults.Keeper = true
+is_keeper_fault faults.NoFileSystem = false
+is_keeper_fault faults.Unclean = false
+is_keeper_fault faults.Memory = false
 
 -- the parameters for which opening is refused so
 abbrev pub IsCauseOf : OpenFault → Option Parameters → Type 0

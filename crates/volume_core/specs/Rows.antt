@@ -1,33 +1,22 @@
 -- Rows of files that operations find.
-use Rattle.std.specs.Prelude.{◌≡◌, ℕ, Bool, true, false, Option, None, Some, option_and_then, Result, Ok, Err, if◌then◌else◌}
+use Rattle.std.specs.Prelude.{◌≡◌, ℕ, [], ◌∷◌, Option, None, Some, option_and_then, Result, Ok, Err}
 use Rattle.s3_base.specs.declared.errors.Errno.{Errno}
-use Rattle.s3_base.specs.declared.node_kind.Kind.TheVariants as kinds
+use Rattle.plain_tree.specs.Checks.{first_failure}
 use Rattle.s3_rows.specs.Rows.{Inode}
 use Rattle.s3_rows.specs.Tables.{Tables}
 use Rattle.s3_rows.specs.Selections.{inode_at}
-use Rattle.s3_rows.specs.Validity.{is_regular}
+use Rattle.op_checks.specs.Rows.{row_check, file_row_check, lock_row_check}
 use Rattle.volume_core.specs.declared.refusal.Refusal.{Refusal}
 use Rattle.volume_core.specs.declared.refusal.Refusal.TheVariants.{Refused, Worn, Keeper, Memory}
 
--- why a row cannot be changed as a file: it is not there, a directory, a link, or locked
-abbrev pub file_failure : Option Inode → Option ℕ
-file_failure None = Some 2
-file_failure (Some r) = elim r.kind [ kinds.Directory ↦ Some 21 | kinds.Link ↦ Some 22 | kinds.Regular ↦ if r.locked then Some 1 else None ]
+-- the checks on a file that is to be changed
+abbrev pub file_checks : Option Inode → Option ℕ
+file_checks found = first_failure (row_check found ∷ file_row_check found ∷ lock_row_check found ∷ [])
 
--- the row of a file that may be changed, or why there is none
-abbrev pub IsFileRow : Option Inode → Result Inode Errno → Type 0
-IsFileRow found (Ok r) = (found ≡ Some r) × (file_failure found ≡ None)
-IsFileRow found (Err errno) = file_failure found ≡ Some errno.0
-
--- there is a row, of a regular file
-abbrev pub is_file_row : Option Inode → Bool
-is_file_row None = false
-is_file_row (Some r) = is_regular r.kind
-
--- the row of the file that a handle has open, or EBADF
-abbrev pub IsOpenRow : Option Inode → Result Inode Errno → Type 0
-IsOpenRow found (Ok r) = (found ≡ Some r) × (is_regular r.kind ≡ true)
-IsOpenRow found (Err errno) = (is_file_row found ≡ false) × (errno.0 ≡ 9)
+-- the row that was found, where no check on it fails, or else the error of the first that does
+abbrev pub IsCheckedRow : (Option Inode → Option ℕ) → Option Inode → Result Inode Errno → Type 0
+IsCheckedRow check found (Ok r) = (found ≡ Some r) × (check found ≡ None)
+IsCheckedRow check found (Err errno) = check found ≡ Some errno.0
 
 -- the row of the inode of a handle
 abbrev pub row_of : Tables → Option ℕ → Option Inode

@@ -1,5 +1,5 @@
 -- When a core over rows stands for a tree.
-use Rattle.std.specs.Prelude.{◌≡◌, ◌+◌, ◌≤◌, List, [], ◌∷◌, Bool, true, false, Option, None, Some, option_map}
+use Rattle.std.specs.Prelude.{◌≡◌, ℕ, List, [], ◌∷◌, Bool, true, false, Option, Some, option_map}
 use Rattle.plain_tree.specs.Tree.{Tree}
 use Rattle.s3_rows.specs.declared.params.State.TheVariants as states
 use Rattle.s3_rows.specs.declared.change.Change.{Change}
@@ -9,7 +9,7 @@ use Rattle.s3_rows.specs.Told.{Told, IfTold, with_batch}
 use Rattle.s3_rows.specs.Validity.{IsValid, HasUniqueNames}
 use Rattle.tree_rows.specs.Shapes.{Represents}
 use Rattle.ref_counts.specs.Handles.{HasHandles}
-use Rattle.ref_counts.specs.Plans.{AreNamed, next_name_of, uses_of}
+use Rattle.ref_counts.specs.Plans.{AreNamed, LeavesRest, IsSmall}
 use Rattle.volume_core.specs.Files.{HasBytes}
 use Rattle.volume_core.specs.declared.row_core.RowCore.{RowCore}
 
@@ -34,21 +34,14 @@ pub record StandsFor {K : Type 0} (told : K → Option Told) (core : RowCore K) 
   pub handles : HasHandles core.handles whole
   pub bytes : HasBytes core.files whole
 
--- it stands for some tree, if its keeper tells tables
-abbrev pub CanAnswer : {K : Type 0} → (K → Option Told) → RowCore K → Type 0
-CanAnswer told core = elim (told core.keeper) [ Some now ↦ (whole : Tree) × StandsFor told core whole | None ↦ Unit {0} ]
-
 -- what a batch, where it has a change, makes of what is told
 abbrev pub IsCommitted : List Change → Option Told → Option Told → Type 0
 IsCommitted [] before after = after ≡ before
 IsCommitted (c ∷ cs) before after = after ≡ option_map (with_batch (c ∷ cs)) before
 
--- at most one more name is drawn and used
-pub record IsSmall (t after : Tables) : Type 0 where
-  pub names : next_name_of after ≤ next_name_of t + 1
-  pub uses : uses_of after ≤ uses_of t + 1
-
--- what is told after a call: one batch more where rows are changed, and else what was told before
-abbrev pub IsToldAfter : Bool → Option Told → Option Told → Type 0
-IsToldAfter true before after = (batch : List Change) × (after ≡ option_map (with_batch batch) before) × IfTold before (λ t. IsSmall t (tables_after batch t))
-IsToldAfter false before after = after ≡ before
+-- What is told after a call: one batch more where rows are changed, and else what was told before. The batch leaves alone what the
+-- operation does not speak of, and draws no more names than it needs.
+abbrev pub IsToldAfter : Bool → ℕ → Option Told → Option Told → Type 0
+IsToldAfter true drawn before after =
+    (batch : List Change) × (after ≡ option_map (with_batch batch) before) × IfTold before (λ t. LeavesRest t (tables_after batch t) × IsSmall drawn t (tables_after batch t))
+IsToldAfter false drawn before after = after ≡ before

@@ -1,17 +1,18 @@
 //! Operations on the bytes of one file.
-ghost use Rattle.std.specs.Prelude.{◌≡◌, ◌<◌, ◌≤◌, ◌^◌, ℕ, length, IsTrue, IfOk, IsErrOf};
-ghost use Rattle.s3_base.specs.Faults.{HasRisen};
+ghost use Rattle.std.specs.Prelude.{◌≡◌, ◌<◌, ◌≤◌, ◌^◌, ℕ, length, IsTrue, IfOk};
+ghost use Rattle.s3_base.specs.Faults.{HasCause};
 ghost use Rattle.op_frames.specs.declared.operation.Op.TheVariants as ops;
 ghost use Rattle.plain_tree.specs.Tree.{Tree};
 ghost use Rattle.ref_counts.specs.Plans.{is_fit};
 ghost use Rattle.plain_tree.specs.Files.{read_at};
 ghost use Rattle.s3_rows.specs.Told.{IfTold};
 ghost use Rattle.volume_core.specs.Standing.{StandsFor};
-ghost use Rattle.volume_core.specs.Refusals.{IsOutcome};
+ghost use Rattle.volume_core.specs.Refusals.{IsOutcome, has_keeper_failed};
 
+use crate::RowCore;
 use crate::refusal::Refusal;
-use crate::rows::{check_unlocked, file_row, open_row, put_row};
-use crate::{RowCore, checks};
+use crate::rows::{file_row, open_row, put_row};
+use op_checks::{check_read_length, check_size, check_unlocked, check_write_end};
 use op_frames::Reply;
 use ref_counts::attr_of;
 use s3_base::ByteList;
@@ -27,11 +28,11 @@ impl<K: Keeper> RowCore<K> {
         count: u32,
     ) -> Result<Reply, Refusal>
         ensures outcome { (whole : Tree) (now : ℕ) → StandsFor K.told self.old whole → IsOutcome K.told self.old self.new whole pass (ops.Read handle offset count) now result }
-        ensures fault { IsErrOf result Refusal.Keeper → HasRisen (K.faults self.old.keeper) (K.faults self.new.keeper) }
+        ensures cause { HasCause (K.faults self.old.keeper) (K.faults self.new.keeper) (has_keeper_failed result) }
         ensures untold { K.told self.new.keeper ≡ K.told self.old.keeper }
         ensures fit { IfOk result (λ reply. IsTrue (is_fit reply)) }
     {
-        checks::check_read_length(count)?;
+        check_read_length(count)?;
         let row = open_row(&mut self.keeper, &self.handles, pass, handle)?;
         let piece = piece_of(self.files.bytes(row.id), offset, count);
         Ok(Reply::Bytes(ByteList::from_slice(self.alloc, piece)?))
@@ -49,13 +50,13 @@ impl<K: Keeper> RowCore<K> {
         requires now { now < 2 ^ 62 }
         requires short { length bytes.now ≤ 131072 }
         ensures outcome { (whole : Tree) → StandsFor K.told self.old whole → IsOutcome K.told self.old self.new whole pass (ops.Write handle offset bytes.now) now result }
-        ensures fault { IsErrOf result Refusal.Keeper → HasRisen (K.faults self.old.keeper) (K.faults self.new.keeper) }
+        ensures cause { HasCause (K.faults self.old.keeper) (K.faults self.new.keeper) (has_keeper_failed result) }
         ensures untold { K.told self.old.keeper ≡ None → K.told self.new.keeper ≡ None }
         ensures fit { IfOk result (λ reply. IsTrue (is_fit reply)) }
     {
         let row = open_row(&mut self.keeper, &self.handles, pass, handle)?;
         check_unlocked(&row)?;
-        checks::check_write_end(offset, bytes)?;
+        check_write_end(offset, bytes)?;
         if bytes.is_empty() {
             return Ok(Reply::Count(0));
         }
@@ -84,12 +85,12 @@ impl<K: Keeper> RowCore<K> {
     pub(crate) fn truncate(&mut self, inode: u64, size: u64, now: u64) -> Result<Reply, Refusal>
         requires now { now < 2 ^ 62 }
         ensures outcome { (whole : Tree) (pass : ℕ) → StandsFor K.told self.old whole → IsOutcome K.told self.old self.new whole pass (ops.Truncate inode size) now result }
-        ensures fault { IsErrOf result Refusal.Keeper → HasRisen (K.faults self.old.keeper) (K.faults self.new.keeper) }
+        ensures cause { HasCause (K.faults self.old.keeper) (K.faults self.new.keeper) (has_keeper_failed result) }
         ensures untold { K.told self.old.keeper ≡ None → K.told self.new.keeper ≡ None }
         ensures fit { IfOk result (λ reply. IsTrue (is_fit reply)) }
     {
         let row = file_row(&mut self.keeper, inode)?;
-        checks::check_size(size)?;
+        check_size(size)?;
         let new = InodeRow {
             size,
             mtime: now,

@@ -3,7 +3,6 @@
 #![tactic(auto)]
 
 mod bytes;
-mod checks;
 mod data;
 mod files;
 mod laws;

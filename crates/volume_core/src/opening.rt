@@ -1,11 +1,11 @@
 //! How a core is opened.
-ghost use Rattle.std.specs.Prelude.{◌≡◌, Some, None, IfOk, IfErr, OnOk, OnErr, IsErrOf};
-ghost use Rattle.s3_base.specs.Faults.{HasRisen};
+ghost use Rattle.std.specs.Prelude.{◌≡◌, ◌≤◌, Some, None, IfOk, IfErr, OnOk, OnErr};
+ghost use Rattle.s3_base.specs.Faults.{HasCause};
 ghost use Rattle.plain_tree.specs.Tree.{Tree};
 ghost use Rattle.s3_rows.specs.Tables.{Tables};
 ghost use Rattle.s3_rows.specs.Told.{Told, IfTold};
 ghost use Rattle.tree_rows.specs.Shapes.{Represents};
-ghost use Rattle.volume_core.specs.Opening.{AreReady, IsOpened, IsCauseOf, IsMounting};
+ghost use Rattle.volume_core.specs.Opening.{AreReady, IsOpened, IsCauseOf, IsMounting, is_keeper_fault};
 ghost use Rattle.volume_core.specs.Standing.{StandsFor};
 
 use crate::files::Files;
@@ -40,7 +40,9 @@ impl<K: Keeper> RowCore<K> {
         // A refusal leaves what is told, and has its cause in the parameters or in the keeper's count of faults.
         ensures same { IfErr result (λ e. K.told e.0 ≡ K.told keeper) }
         ensures cause { IfErr result (λ e. IfTold (K.told keeper) (λ t. IsCauseOf e.1 t.params)) }
-        ensures fault { IfErr result (λ e. e.1 ≡ OpenFault.Keeper → HasRisen (K.faults keeper) (K.faults e.0)) }
+        // The count of faults never falls, and rose where the keeper failed.
+        ensures later { IfOk result (λ core. K.faults keeper ≤ K.faults core.keeper) }
+        ensures fault { IfErr result (λ e. HasCause (K.faults keeper) (K.faults e.0) (is_keeper_fault e.1)) }
     {
         let mut keeper = keeper;
         match mount(alloc, &mut keeper) {
@@ -61,7 +63,8 @@ fn mount<K: Keeper>(alloc: Global, keeper: &mut K) -> Result<(), OpenFault>
     ensures untold { OnOk result (K.told keeper.old ≡ None → K.told keeper.new ≡ None) }
     ensures err { OnErr result (K.told keeper.new ≡ K.told keeper.old) }
     ensures cause { IfErr result (λ fault. IfTold (K.told keeper.old) (λ t. IsCauseOf fault t.params)) }
-    ensures fault { IsErrOf result OpenFault.Keeper → HasRisen (K.faults keeper.old) (K.faults keeper.new) }
+    ensures later { OnOk result (K.faults keeper.old ≤ K.faults keeper.new) }
+    ensures fault { IfErr result (λ fault. HasCause (K.faults keeper.old) (K.faults keeper.new) (is_keeper_fault fault)) }
 {
     let params = keeper.params()?.ok_or(OpenFault::NoFileSystem)?;
     if params.state != State::Clean {

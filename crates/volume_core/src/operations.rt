@@ -1,23 +1,22 @@
 //! The operations that are built, each by its plan.
-ghost use Rattle.std.specs.Prelude.{◌≡◌, ◌<◌, ◌^◌, ℕ, false, None, Err, IsTrue, IfOk, IsErrOf};
-ghost use Rattle.s3_base.specs.Faults.{HasRisen};
-ghost use Rattle.op_frames.specs.declared.operation.Op.TheVariants as ops;
+ghost use Rattle.std.specs.Prelude.{◌≡◌, ◌<◌, ◌^◌, false, None, Err, IsTrue, IfOk};
+ghost use Rattle.s3_base.specs.Faults.{HasCause};
 ghost use Rattle.op_frames.specs.Operations.{is_op};
 ghost use Rattle.plain_tree.specs.Tree.{Tree};
-ghost use Rattle.s3_rows.specs.Told.{IfTold};
 ghost use Rattle.dir_ops.specs.Plans as dir_plans;
+ghost use Rattle.inode_ops.specs.Plans as inode_plans;
 ghost use Rattle.ref_counts.specs.Plans.{HasFitReply, is_fit};
 ghost use Rattle.plain_tree.specs.Built.{is_built};
-ghost use Rattle.volume_core.specs.Plans.{IsTaken, IsOpening, inode_opened, inode_of_plan, keeps_handles};
-ghost use Rattle.volume_core.specs.Refusals.{IsOutcome};
-ghost use Rattle.volume_core.specs.Standing.{StandsFor, AreServed};
+ghost use Rattle.volume_core.specs.Plans.{IsTaken, IsOpening, IsFulfilled, inode_opened, inode_of_plan, closed_by};
+ghost use Rattle.volume_core.specs.Refusals.{IsOutcome, has_keeper_failed};
+ghost use Rattle.volume_core.specs.Standing.{StandsFor};
 
 use crate::RowCore;
 use crate::refusal::Refusal;
 use crate::rows::commit;
 use op_frames::{Op, Reply};
-use ref_counts::errno::{ENOSPC, ENOSYS};
 use ref_counts::{Handle, Handles, Plan};
+use s3_base::Errno;
 use s3_rows::Keeper;
 
 /// Commits what a plan says, and gives its reply.
@@ -25,7 +24,7 @@ fn take<K: Keeper>(keeper: &mut K, plan: Plan) -> Result<Reply, Refusal>
     requires fit { HasFitReply plan }
     ensures taken { IsTaken plan (K.told keeper.old) (K.told keeper.new) result }
     ensures untold { K.told keeper.old ≡ None → K.told keeper.new ≡ None }
-    ensures fault { IsErrOf result Refusal.Keeper → HasRisen (K.faults keeper.old) (K.faults keeper.new) }
+    ensures cause { HasCause (K.faults keeper.old) (K.faults keeper.new) (has_keeper_failed result) }
     ensures fit { IfOk result (λ reply. IsTrue (is_fit reply)) }
 {
     match plan {
@@ -68,7 +67,7 @@ fn open_as_planned<K: Keeper>(
 ) -> Result<Reply, Refusal>
     requires fit { HasFitReply plan }
     ensures opening { IsOpening plan pass (K.told keeper.old) (K.told keeper.new) handles.old handles.new result }
-    ensures fault { IsErrOf result Refusal.Keeper → HasRisen (K.faults keeper.old) (K.faults keeper.new) }
+    ensures cause { HasCause (K.faults keeper.old) (K.faults keeper.new) (has_keeper_failed result) }
     ensures untold { K.told keeper.old ≡ None → K.told keeper.new ≡ None }
     ensures fit { IfOk result (λ reply. IsTrue (is_fit reply)) }
 {
@@ -76,7 +75,7 @@ fn open_as_planned<K: Keeper>(
         return take(keeper, plan);
     };
     if handles.is_full() {
-        return Err(Refusal::Refused(ENOSPC));
+        return Err(Refusal::Refused(Errno::ENOSPC));
     }
     handles.open(Handle { inode, pass })?;
     let taken = take(keeper, plan);
@@ -86,15 +85,44 @@ fn open_as_planned<K: Keeper>(
     taken
 }
 
+/// Closes the handles that an operation closes.
+fn close(handles: &mut Handles, pass: u64, op: &Op)
+    ensures { handles.new ≡ closed_by pass op.now handles.old }
+{
+    match op {
+        Op::Release { handle } => handles.close(*handle),
+        Op::Leave => handles.close_all(pass),
+        _ => {}
+    }
+}
+
+/// Commits what a plan says, and opens and closes handles as the operation does.
+fn fulfil<K: Keeper>(
+    keeper: &mut K,
+    handles: &mut Handles,
+    pass: u64,
+    op: &Op,
+    plan: Plan,
+) -> Result<Reply, Refusal>
+    requires fit { HasFitReply plan }
+    ensures fulfilled { IsFulfilled plan pass op.now (K.told keeper.old) (K.told keeper.new) handles.old handles.new result }
+    ensures cause { HasCause (K.faults keeper.old) (K.faults keeper.new) (has_keeper_failed result) }
+    ensures untold { K.told keeper.old ≡ None → K.told keeper.new ≡ None }
+    ensures fit { IfOk result (λ reply. IsTrue (is_fit reply)) }
+{
+    let reply = open_as_planned(keeper, handles, pass, plan)?;
+    close(handles, pass, op);
+    Ok(reply)
+}
+
 impl<K: Keeper> RowCore<K> {
     /// Carries out an operation of a pass, or says why not; then all is as before.
     pub(crate) fn carry_out(&mut self, pass: u64, op: &Op, now: u64) -> Result<Reply, Refusal>
         requires op { IsTrue (is_op op.now) }
         requires now { now < 2 ^ 62 }
-        requires served { IfTold (K.told self.old.keeper) AreServed }
         ensures built { IsTrue (is_built op.now) → (whole : Tree) → StandsFor K.told self.old whole → IsOutcome K.told self.old self.new whole pass op.now now result }
         ensures unbuilt { is_built op.now ≡ false → (result ≡ Err (Refusal.Refused (record { 0 = 38 }))) × (self.new ≡ self.old) }
-        ensures fault { IsErrOf result Refusal.Keeper → HasRisen (K.faults self.old.keeper) (K.faults self.new.keeper) }
+        ensures cause { HasCause (K.faults self.old.keeper) (K.faults self.new.keeper) (has_keeper_failed result) }
         ensures untold { K.told self.old.keeper ≡ None → K.told self.new.keeper ≡ None }
         ensures fit { IfOk result (λ reply. IsTrue (is_fit reply)) }
     {
@@ -103,11 +131,11 @@ impl<K: Keeper> RowCore<K> {
             | Op::Chmod { .. }
             | Op::Chown { .. }
             | Op::Utimes { .. }
-            | Op::Statfs => self.change_attributes(pass, op, now),
-            Op::Create { .. } => self.create(pass, op, now),
-            Op::Open { .. } => self.open_file(pass, op, now),
-            Op::Release { handle } => self.release(pass, *handle, op, now),
-            Op::Leave => self.leave(pass, op, now),
+            | Op::Open { .. }
+            | Op::Release { .. }
+            | Op::Statfs
+            | Op::Leave => self.on_inodes(pass, op, now),
+            Op::Create { .. } => self.on_entries(pass, op, now),
             Op::Truncate { inode, size } => self.truncate(*inode, *size, now),
             Op::Read {
                 handle,
@@ -119,81 +147,33 @@ impl<K: Keeper> RowCore<K> {
                 offset,
                 bytes,
             } => self.write(pass, *handle, *offset, bytes, now),
-            _ => Err(Refusal::Refused(ENOSYS)),
+            _ => Err(Refusal::Refused(Errno::ENOSYS)),
         }
     }
 
-    /// Carries out an operation that keeps all handles, by its plan.
-    fn change_attributes(&mut self, pass: u64, op: &Op, now: u64) -> Result<Reply, Refusal>
-        requires op { IsTrue (keeps_handles op.now) }
+    /// Carries out an operation on inodes or handles, by its plan.
+    fn on_inodes(&mut self, pass: u64, op: &Op, now: u64) -> Result<Reply, Refusal>
+        requires op { IsTrue (inode_plans.is_planned op.now) }
         requires now { now < 2 ^ 62 }
-        requires served { IfTold (K.told self.old.keeper) AreServed }
         ensures outcome { (whole : Tree) → StandsFor K.told self.old whole → IsOutcome K.told self.old self.new whole pass op.now now result }
-        ensures fault { IsErrOf result Refusal.Keeper → HasRisen (K.faults self.old.keeper) (K.faults self.new.keeper) }
+        ensures cause { HasCause (K.faults self.old.keeper) (K.faults self.new.keeper) (has_keeper_failed result) }
         ensures untold { K.told self.old.keeper ≡ None → K.told self.new.keeper ≡ None }
         ensures fit { IfOk result (λ reply. IsTrue (is_fit reply)) }
     {
         let plan = inode_ops::plan(self.alloc, &mut self.keeper, &self.handles, pass, op, now)?;
-        take(&mut self.keeper, plan)
+        fulfil(&mut self.keeper, &mut self.handles, pass, op, plan)
     }
 
-    /// Makes a file and opens it.
-    fn create(&mut self, pass: u64, op: &Op, now: u64) -> Result<Reply, Refusal>
+    /// Carries out an operation on entries, by its plan.
+    fn on_entries(&mut self, pass: u64, op: &Op, now: u64) -> Result<Reply, Refusal>
         requires op { IsTrue (dir_plans.is_planned op.now) }
         requires now { now < 2 ^ 62 }
-        requires served { IfTold (K.told self.old.keeper) AreServed }
         ensures outcome { (whole : Tree) → StandsFor K.told self.old whole → IsOutcome K.told self.old self.new whole pass op.now now result }
-        ensures fault { IsErrOf result Refusal.Keeper → HasRisen (K.faults self.old.keeper) (K.faults self.new.keeper) }
+        ensures cause { HasCause (K.faults self.old.keeper) (K.faults self.new.keeper) (has_keeper_failed result) }
         ensures untold { K.told self.old.keeper ≡ None → K.told self.new.keeper ≡ None }
         ensures fit { IfOk result (λ reply. IsTrue (is_fit reply)) }
     {
         let plan = dir_ops::plan(self.alloc, &mut self.keeper, &self.handles, pass, op, now)?;
-        open_as_planned(&mut self.keeper, &mut self.handles, pass, plan)
-    }
-
-    /// Opens a file.
-    fn open_file(&mut self, pass: u64, op: &Op, now: u64) -> Result<Reply, Refusal>
-        requires op { (inode : ℕ) × (op.now ≡ ops.Open inode) }
-        requires now { now < 2 ^ 62 }
-        requires served { IfTold (K.told self.old.keeper) AreServed }
-        ensures outcome { (whole : Tree) → StandsFor K.told self.old whole → IsOutcome K.told self.old self.new whole pass op.now now result }
-        ensures fault { IsErrOf result Refusal.Keeper → HasRisen (K.faults self.old.keeper) (K.faults self.new.keeper) }
-        ensures untold { K.told self.old.keeper ≡ None → K.told self.new.keeper ≡ None }
-        ensures fit { IfOk result (λ reply. IsTrue (is_fit reply)) }
-    {
-        let plan = inode_ops::plan(self.alloc, &mut self.keeper, &self.handles, pass, op, now)?;
-        open_as_planned(&mut self.keeper, &mut self.handles, pass, plan)
-    }
-
-    /// Closes a handle of the pass.
-    fn release(&mut self, pass: u64, handle: u64, op: &Op, now: u64) -> Result<Reply, Refusal>
-        requires op { op.now ≡ ops.Release handle }
-        requires now { now < 2 ^ 62 }
-        requires served { IfTold (K.told self.old.keeper) AreServed }
-        ensures outcome { (whole : Tree) → StandsFor K.told self.old whole → IsOutcome K.told self.old self.new whole pass op.now now result }
-        ensures fault { IsErrOf result Refusal.Keeper → HasRisen (K.faults self.old.keeper) (K.faults self.new.keeper) }
-        ensures untold { K.told self.old.keeper ≡ None → K.told self.new.keeper ≡ None }
-        ensures fit { IfOk result (λ reply. IsTrue (is_fit reply)) }
-    {
-        let plan = inode_ops::plan(self.alloc, &mut self.keeper, &self.handles, pass, op, now)?;
-        let reply = take(&mut self.keeper, plan)?;
-        self.handles.close(handle);
-        Ok(reply)
-    }
-
-    /// Closes all handles of the pass.
-    fn leave(&mut self, pass: u64, op: &Op, now: u64) -> Result<Reply, Refusal>
-        requires op { op.now ≡ ops.Leave }
-        requires now { now < 2 ^ 62 }
-        requires served { IfTold (K.told self.old.keeper) AreServed }
-        ensures outcome { (whole : Tree) → StandsFor K.told self.old whole → IsOutcome K.told self.old self.new whole pass op.now now result }
-        ensures fault { IsErrOf result Refusal.Keeper → HasRisen (K.faults self.old.keeper) (K.faults self.new.keeper) }
-        ensures untold { K.told self.old.keeper ≡ None → K.told self.new.keeper ≡ None }
-        ensures fit { IfOk result (λ reply. IsTrue (is_fit reply)) }
-    {
-        let plan = inode_ops::plan(self.alloc, &mut self.keeper, &self.handles, pass, op, now)?;
-        let reply = take(&mut self.keeper, plan)?;
-        self.handles.close_all(pass);
-        Ok(reply)
+        fulfil(&mut self.keeper, &mut self.handles, pass, op, plan)
     }
 }

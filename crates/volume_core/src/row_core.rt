@@ -1,17 +1,17 @@
 //! The core over rows, and how it answers.
-ghost use Rattle.std.specs.Prelude.{◌≡◌, ◌<◌, ◌^◌, IsTrue};
-ghost use Rattle.s3_base.specs.Faults.{HasRisen};
+ghost use Rattle.std.specs.Prelude.{◌≡◌, ◌<◌, ◌^◌, None, IsTrue};
+ghost use Rattle.s3_base.specs.Faults.{HasCause, HasRisen};
 ghost use Rattle.op_frames.specs.Operations.{is_op};
 ghost use Rattle.op_frames.specs.Answers.{has_short_data};
 ghost use Rattle.plain_tree.specs.Tree.{Tree};
-ghost use Rattle.volume_core.specs.Standing.{StandsFor, CanAnswer};
-ghost use Rattle.volume_core.specs.Answers.{IsRowAnswer};
+ghost use Rattle.volume_core.specs.Standing.{StandsFor};
+ghost use Rattle.volume_core.specs.Answers.{IsRowAnswer, is_keeper_fault};
 
 use crate::files::Files;
 use crate::refusal::Refusal;
 use op_frames::{Cause, Op, Reply};
 use ref_counts::Handles;
-use ref_counts::errno::ENOSPC;
+use s3_base::Errno;
 use s3_rows::Keeper;
 use std::alloc::Global;
 
@@ -43,20 +43,19 @@ impl<K: Keeper> RowCore<K> {
     pub fn answer(&mut self, pass: u64, op: &Op, now: u64) -> Reply
         requires op { IsTrue (is_op op.now) }
         requires now { now < 2 ^ 62 }
-        requires can { CanAnswer K.told self.old }
         // The core stands for the next tree. The reply is the plain tree's, or one outside its rules, and then nothing changes.
         ensures answer { (whole : Tree) → StandsFor K.told self.old whole
             → (next : Tree) × StandsFor K.told self.new next
             × IsRowAnswer (HasRisen (K.faults self.old.keeper) (K.faults self.new.keeper)) (K.told self.old.keeper) (K.told self.new.keeper) whole (record { pass = pass; now = now; op = op.now }) result next }
-        ensures can { CanAnswer K.told self.new }
-        // A keeper's fault is answered only where its count rose, whether it tells its tables or not.
-        ensures fault { result ≡ Reply.Fault Cause.Keeper → HasRisen (K.faults self.old.keeper) (K.faults self.new.keeper) }
+        // The count of faults never falls, and rose where a keeper's fault is answered, whether it tells its tables or not.
+        ensures cause { HasCause (K.faults self.old.keeper) (K.faults self.new.keeper) (is_keeper_fault result) }
+        ensures untold { K.told self.old.keeper ≡ None → K.told self.new.keeper ≡ None }
         ensures short { IsTrue (has_short_data result) }
     {
         match self.carry_out(pass, op, now) {
             Ok(reply) => reply,
             Err(Refusal::Refused(errno)) => Reply::Errno(errno),
-            Err(Refusal::Worn) => Reply::Errno(ENOSPC),
+            Err(Refusal::Worn) => Reply::Errno(Errno::ENOSPC),
             Err(Refusal::Keeper) => Reply::Fault(Cause::Keeper),
             Err(Refusal::Memory) => Reply::Fault(Cause::Memory),
         }

@@ -1,50 +1,44 @@
 //! Rows of files, read from the keeper and put into it.
-ghost use Rattle.std.specs.Prelude.{◌≡◌, ◌≤◌, ◌∷◌, [], option_map, OnOk, OnErr, IsErrOf};
-ghost use Rattle.s3_base.specs.Faults.{HasCause, HasRisen};
+ghost use Rattle.std.specs.Prelude.{◌≡◌, ◌∷◌, [], option_map, OnOk, OnErr};
+ghost use Rattle.s3_base.specs.Faults.{HasCause};
 ghost use Rattle.s3_rows.specs.declared.change.Change.TheVariants as changes;
 ghost use Rattle.s3_rows.specs.Selections.{inode_at};
 ghost use Rattle.s3_rows.specs.Told.{IfTold, has_failed, with_batch};
-ghost use Rattle.plain_tree.specs.Checks.{fails_with};
+ghost use Rattle.op_checks.specs.Rows.{open_row_check};
 ghost use Rattle.ref_counts.specs.Handles.{inode_open};
-ghost use Rattle.volume_core.specs.Refusals.{Checks};
+ghost use Rattle.volume_core.specs.Refusals.{has_keeper_failed};
 ghost use Rattle.volume_core.specs.Standing.{IsCommitted};
-ghost use Rattle.volume_core.specs.Rows.{IsFileRow, IsOpenRow, IsFound, row_of};
+ghost use Rattle.volume_core.specs.Rows.{IsCheckedRow, IsFound, file_checks, row_of};
 
 use crate::refusal::Refusal;
+use op_checks::{check_file, check_node, check_open, check_unlocked};
 use ref_counts::Handles;
-use ref_counts::errno::{EBADF, EINVAL, EISDIR, ENOENT, EPERM};
-use s3_base::{Errno, Kind};
+use s3_base::Errno;
 use s3_rows::{Batch, Change, InodeRow, Keeper, KeeperFault};
 use std::alloc::Global;
 
-/// The row is not locked.
-pub fn check_unlocked(row: &InodeRow) -> Result<(), Errno>
-    ensures { Checks result (fails_with 1 row.now.locked) }
-{
-    if row.locked { Err(EPERM) } else { Ok(()) }
-}
-
 /// The row of a regular file that may be changed.
 fn changeable(found: Option<InodeRow>) -> Result<InodeRow, Errno>
-    ensures { IsFileRow found result }
+    ensures { IsCheckedRow file_checks found result }
 {
-    let row = found.ok_or(ENOENT)?;
-    match row.kind {
-        Kind::Directory => Err(EISDIR),
-        Kind::Link => Err(EINVAL),
-        Kind::Regular => {
-            check_unlocked(&row)?;
-            Ok(row)
-        }
-    }
+    let row = check_node(found)?;
+    check_file(&row)?;
+    check_unlocked(&row)?;
+    Ok(row)
+}
+
+/// The row of a regular file that is open.
+fn readable(found: Option<InodeRow>) -> Result<InodeRow, Errno>
+    ensures { IsCheckedRow open_row_check found result }
+{
+    check_open(found)
 }
 
 /// The row of a regular file that is not locked.
 pub fn file_row<K: Keeper>(keeper: &mut K, inode: u64) -> Result<InodeRow, Refusal>
-    ensures row { IfTold (K.told keeper.old) (λ t. IsFound (IsFileRow (inode_at t inode)) result) }
+    ensures row { IfTold (K.told keeper.old) (λ t. IsFound (IsCheckedRow file_checks (inode_at t inode)) result) }
     ensures same { K.told keeper.new ≡ K.told keeper.old }
-    ensures later { K.faults keeper.old ≤ K.faults keeper.new }
-    ensures fault { IsErrOf result Refusal.Keeper → HasRisen (K.faults keeper.old) (K.faults keeper.new) }
+    ensures cause { HasCause (K.faults keeper.old) (K.faults keeper.new) (has_keeper_failed result) }
 {
     let found = keeper.inode(inode)?;
     Ok(changeable(found)?)
@@ -57,17 +51,13 @@ pub fn open_row<K: Keeper>(
     pass: u64,
     handle: u64,
 ) -> Result<InodeRow, Refusal>
-    ensures row { IfTold (K.told keeper.old) (λ t. IsFound (IsOpenRow (row_of t (inode_open handles.now pass handle))) result) }
+    ensures row { IfTold (K.told keeper.old) (λ t. IsFound (IsCheckedRow open_row_check (row_of t (inode_open handles.now pass handle))) result) }
     ensures same { K.told keeper.new ≡ K.told keeper.old }
-    ensures later { K.faults keeper.old ≤ K.faults keeper.new }
-    ensures fault { IsErrOf result Refusal.Keeper → HasRisen (K.faults keeper.old) (K.faults keeper.new) }
+    ensures cause { HasCause (K.faults keeper.old) (K.faults keeper.new) (has_keeper_failed result) }
 {
-    let inode = handles.inode_of(pass, handle).ok_or(EBADF)?;
-    let row = keeper.inode(inode)?.ok_or(EBADF)?;
-    if row.kind != Kind::Regular {
-        return Err(Refusal::Refused(EBADF));
-    }
-    Ok(row)
+    let inode = handles.inode_of(pass, handle).ok_or(Errno::EBADF)?;
+    let found = keeper.inode(inode)?;
+    Ok(readable(found)?)
 }
 
 /// Commits a batch, if it has a change.
