@@ -1,6 +1,8 @@
 -- The core of a replay, from call to call.
-use Rattle.std.proofs.Common.{◌≡◌, ◌<◌, ◌≤◌, ◌+◌, ℕ, [], ◌∷◌, Bool, true, false, Some, sym, ap, ◌∙◌, subst, inl, inr, ⊎_elim, arith}
+use Rattle.std.proofs.Common.{◌≡◌, ◌<◌, ◌≤◌, ◌+◌, ℕ, [], ◌∷◌, Bool, true, false, cond, Some, sym, ap, ◌∙◌, subst, inl, inr, ⊎_elim, arith}
+use Rattle.std.specs.Prelude.{is_some}
 use Rattle.s3_base.specs.Faults.{HasRisen}
+use Rattle.op_frames.specs.declared.operation.Op.{Op}
 use Rattle.op_frames.specs.declared.reply.Reply.{Reply}
 use Rattle.op_frames.specs.Replay.{Request, input_limit}
 use Rattle.plain_tree.specs.Tree.{Tree, made_tree}
@@ -11,14 +13,23 @@ use Rattle.s3_rows.specs.Made.{made_tables, made_parameters}
 use Rattle.s3_rows.specs.Tables.{Tables}
 use Rattle.s3_rows.specs.Batches.{tables_after}
 use Rattle.s3_rows.specs.Told.{Told, with_batch}
-use Rattle.ref_counts.specs.Plans.{next_name_of, uses_of, IsWorn}
+use Rattle.plain_tree.specs.Classes.{name_used, names_drawn}
+use Rattle.ref_counts.specs.Plans.{next_name_of, uses_of, IsWorn, IsSmall}
 use Rattle.volume_core.specs.declared.row_core.RowCore.{RowCore}
 use Rattle.volume_core.specs.Answers.{IsForced, IsRowAnswer, changes_rows}
 use Rattle.plain_tree.specs.Built.{IsCoreAnswer}
 use Rattle.volume_core.specs.Opening.{IsMounting, mounted}
-use Rattle.volume_core.specs.Standing.{StandsFor, IsSmall, IsToldAfter}
+use Rattle.volume_core.specs.Standing.{StandsFor, IsToldAfter}
 use Rattle.offline_tool.specs.Serving.{told_by, Serves}
 use Rattle.offline_tool.proofs.Room.{not_worn}
+
+-- an operation draws and uses at most one name
+at_most_one : (whole : Tree) (op : Op) → names_drawn whole op ≤ 1
+at_most_one whole op = by_test (is_some (name_used whole op))
+  where
+    by_test : (b : Bool) → cond b 1 0 ≤ 1
+    by_test true = omega arith
+    by_test false = omega arith
 
 module _ (before after : RowCore Told) (place behind : ℕ) (whole next : Tree) (s : Serves before place whole) (further : place < behind) (stands : StandsFor told_by after next) where
   abbrev old : Tables
@@ -43,15 +54,15 @@ module _ (before after : RowCore Told) (place behind : ℕ) (whole next : Tree) 
       let own : after.keeper ≡ before.keeper = cc keepers in
       by_tables old (ap (λ (x : Told). x.tables) (sym (held after next stands) ∙ own ∙ held before whole s.stands)) (omega arith) (omega arith)
 
-  pub still_serves : (b : Bool) → IsToldAfter b (told_by before.keeper) (told_by after.keeper) → Serves after behind next
-  still_serves false same = same_tables same
-  still_serves true told =
+  pub still_serves : (b : Bool) (drawn : ℕ) → drawn ≤ 1 → IsToldAfter b drawn (told_by before.keeper) (told_by after.keeper) → Serves after behind next
+  still_serves false drawn few same = same_tables same
+  still_serves true drawn few told =
       let one : Some after.keeper ≡ Some (with_batch told.0 before.keeper) = told.1 in
       let own : after.keeper ≡ with_batch told.0 before.keeper = cc one in
       let tables : stands.now.tables ≡ tables_after told.0 old =
       ap (λ (x : Told). x.tables) (sym (held after next stands) ∙ own) ∙ ap (λ (x : Told). tables_after told.0 x.tables) (held before whole s.stands) in
-      let small : IsSmall old (tables_after told.0 old) = subst (λ (x : Told). IsSmall x.tables (tables_after told.0 x.tables)) (held before whole s.stands) told.2 in
-      by_tables (tables_after told.0 old) tables small.names small.uses
+      let small : IsSmall drawn old (tables_after told.0 old) = subst (λ (x : Told). IsSmall drawn x.tables (tables_after told.0 x.tables)) (held before whole s.stands) told.2.1 in
+      by_tables (tables_after told.0 old) tables (omega (arith, small.names, few)) (omega (arith, small.uses, few))
 
   -- a reply outside the rules is want of memory
   only_memory : (call : Request) (reply : Reply) → place ≤ input_limit → IsForced (HasRisen 0 0) (told_by before.keeper) whole call reply → reply ≡ no_memory
@@ -61,8 +72,8 @@ module _ (before after : RowCore Told) (place behind : ℕ) (whole next : Tree) 
       (⊎_elim
       (λ failed. absurd (omega (arith, failed.1)))
       (λ worn. absurd (
-      let own : IsWorn old call.op = subst (λ (x : Told). IsWorn x.tables call.op) (held before whole s.stands) worn.1.1 in
-      not_worn old call.op s.stands.served.valid (omega (arith, s.names, within)) (omega (arith, s.uses, within)) own
+      let own : IsWorn old whole call.op = subst (λ (x : Told). IsWorn x.tables whole call.op) (held before whole s.stands) worn.1.1 in
+      not_worn old whole call.op s.stands.served.valid (omega (arith, s.names, within)) (omega (arith, s.uses, within)) own
       )))
       forced
 
@@ -70,7 +81,7 @@ module _ (before after : RowCore Told) (place behind : ℕ) (whole next : Tree) 
       → Serves after behind next × IsCoreAnswer whole call reply next
   answered call reply within is =
       ⊎_elim
-      (λ rules. (still_serves (changes_rows whole call) rules.2, inl (rules.0, rules.1)))
+      (λ rules. (still_serves (changes_rows whole call) (names_drawn whole call.op) (at_most_one whole call.op) rules.2, inl (rules.0, rules.1)))
       (λ forced. (same_tables forced.3, inr (forced.0, only_memory call reply within forced.1, forced.2)))
       is
 

@@ -12,7 +12,9 @@ use Rattle.s3_rows.specs.Validity.{IsValid, counts_name}
 use Rattle.s3_rows.proofs.Finding.{found_all}
 use Rattle.s3_rows.proofs.Passing.{first}
 use Rattle.ref_counts.specs.Names.{Raised, raised, raised_of, raised_row, new_row}
-use Rattle.ref_counts.specs.Plans.{next_name_of, uses_of, name_used, IsWorn}
+use Rattle.plain_tree.specs.Classes.{name_used}
+use Rattle.plain_tree.specs.Tree.{Tree}
+use Rattle.ref_counts.specs.Plans.{next_name_of, uses_of, IsWorn}
 
 module _ (t : Tables) (v : IsValid t) (few_names : next_name_of t < 2 ^ 62) (few_uses : uses_of t + 1 < 2 ^ 62) (name : List ℕ) where
   row_has_room : (n : Name) → name_of_bytes t name ≡ Some n → raised_row n ≡ None → ⊥
@@ -52,8 +54,8 @@ abbrev WornFor : Tables → Option (List ℕ) → Type 0
 WornFor t used = elim used [ Some name ↦ raised t name ≡ None | None ↦ ⊥ ]
 
 -- no operation finds its name worn
-pub not_worn : (t : Tables) (op : Op) → IsValid t → next_name_of t < 2 ^ 62 → uses_of t + 1 < 2 ^ 62 → IsWorn t op → ⊥
-not_worn t op v few_names few_uses worn = by_name (name_used op) worn
+pub not_worn : (t : Tables) (whole : Tree) (op : Op) → IsValid t → next_name_of t < 2 ^ 62 → uses_of t + 1 < 2 ^ 62 → IsWorn t whole op → ⊥
+not_worn t whole op v few_names few_uses worn = by_name (name_used whole op) worn
   where
     by_name : (used : Option (List ℕ)) → WornFor t used → ⊥
     by_name None is = is

@@ -44,8 +44,3 @@ KeepsOutput (On behind) block_size input core before after written =
     (t : Stream) × (out : List ℕ) × (tree : Tree) × (after ≡ Some t) × (written ≡ Some (before ++ out)) × Serves core behind tree × GoesOn block_size input tree (replay_left behind t) out
 KeepsOutput (End status) block_size input core before after written =
     (out : List ℕ) × (written ≡ Some (before ++ out)) × EndsWith block_size input status out
-
--- the core can answer the next call
-abbrev pub StaysServed : Turn → RowCore Told → Type 0
-StaysServed (On behind) core = (tree : Tree) × Serves core behind tree
-StaysServed (End status) core = Unit {0}

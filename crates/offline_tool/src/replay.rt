@@ -9,7 +9,7 @@ ghost use Rattle.offline_tool.specs.Output.{EndsWith, GoesOn, HasVerdict};
 ghost use Rattle.plain_tree.specs.Tree.{Tree};
 ghost use Rattle.offline_tool.specs.Limits.{AreWithin};
 ghost use Rattle.offline_tool.specs.Serving.{Serves};
-ghost use Rattle.offline_tool.specs.Turns.{stopped_turn, IsStatus, IsTurn, HasFault, KeepsVerdict, KeepsOutput, StaysServed};
+ghost use Rattle.offline_tool.specs.Turns.{stopped_turn, IsStatus, IsTurn, HasFault, KeepsVerdict, KeepsOutput};
 
 use crate::frames::MAX_FRAME;
 use crate::reader::{self, Next, Stop};
@@ -88,9 +88,7 @@ fn take_turn<S: Source, T: Sink>(
 ) -> Turn
     requires buffer { length buffer.old ≡ 4 + 262144 }
     requires place { place ≤ 2 ^ 40 }
-    requires serves { (tree : Tree) × Serves core.old place tree }
     ensures turn { IsTurn place result }
-    ensures serves { StaysServed result core.new }
     ensures source_later { S.faults source.old ≤ S.faults source.new }
     ensures sink_later { T.faults sink.old ≤ T.faults sink.new }
     ensures fault { HasFault result (HasRisen (S.faults source.old) (S.faults source.new) ⊎ HasRisen (T.faults sink.old) (T.faults sink.new)) }

@@ -55,7 +55,6 @@ pub fn open_made(alloc: Global, block_size: u32, slots: u32) -> Result<Served, A
 pub fn answer(core: &mut Served, pass: u64, op: &Op, now: u64) -> Reply
     requires op { IsTrue (is_op op.now) }
     requires now { now < 2 ^ 62 }
-    requires serves { (place : ℕ) × (whole : Tree) × Serves core.old place whole }
     ensures answer { (place behind : ℕ) (whole : Tree) → Serves core.old place whole → place < behind → place ≤ input_limit
         → (next : Tree) × Serves core.new behind next × IsCoreAnswer whole (record { pass = pass; now = now; op = op.now }) result next }
     ensures short { IsTrue (has_short_data result) }

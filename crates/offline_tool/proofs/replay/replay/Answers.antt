@@ -19,7 +19,6 @@ loop-behind-init g c = record {
   sink_later = omega arith;
   verdict = λ s told. (s, told, refl);
   output = λ s before told is. (s, [], told, nothing_more before _ is, made_tree c.args.limits.now.block_size 0, c.in-Ok.ensures, begins c.args.limits.now.block_size s.left);
-  serves = (made_tree c.args.limits.now.block_size 0, c.in-Ok.ensures);
 }
 
 pub loop-behind-preserved : goal.loop-behind-preserved
@@ -38,7 +37,6 @@ loop-behind-preserved g c =
           let was = i.output s before told is in
           let now = c.in-On.ensures.output was.0 c.args.limits.now.block_size s.left before was.1 was.4 was.2 was.3 was.5 was.6 in
           (now.0, now.1, now.3, now.4, now.2, now.5, now.6);
-      serves = c.in-On.ensures.serves;
     }
 
 pub returns-in-End-clause-fault : goal.returns-in-End-clause-fault

@@ -17,7 +17,6 @@ invariant-loop-behind g l = record {
   verdict : (s : Stream) → g.S.Source.told l.fn.source ≡ Some s → (t : Stream) × (g.S.Source.told l.source ≡ Some t) × ((replay_of s.left).verdict ≡ (replay_left l.place t).verdict);
   output : (s : Stream) (before : List ℕ) → g.S.Source.told l.fn.source ≡ Some s → g.T.Sink.written l.fn.sink ≡ Some before
       → (t : Stream) × (out : List ℕ) × (g.S.Source.told l.source ≡ Some t) × (g.T.Sink.written l.sink ≡ Some (before ++ out)) × (tree : Tree) × Serves l.core l.place tree × GoesOn l.limits.block_size s.left tree (replay_left l.place t) out;
-  serves : (tree : Tree) × Serves l.core l.place tree;
 }
 
 abbrev pub decreases-loop-behind : goal.decreases-loop-behind

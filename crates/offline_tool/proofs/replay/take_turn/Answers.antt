@@ -33,10 +33,3 @@ returns-in-Ok-Refused-clause-output g c = λ s size input before out tree told i
 pub returns-clause-output : goal.returns-clause-output
 returns-clause-output g c = λ s size input before out tree told is serves goes.
     read_cut size input before out tree _ (replay_left c.args.place s) c.in-Err.stop _ _ _ is c.stopped-in-Err.ensures goes
-
-pub returns-in-Ok-clause-serves : goal.returns-in-Ok-clause-serves
-returns-in-Ok-clause-serves g c =
-    let onward : IsOnward c.args.place c.in-Ok-Call.field-0 = c.in-Ok-Call.ensures.onward in
-    let serves = c.requires.serves in
-    let next = c.answer-reply.ensures.answer c.args.place c.in-Ok-Call.behind serves.0 serves.1 (subst (λ (x : Next). IsOnward c.args.place x) c.in-Ok-Call.field-0-is onward).2 c.requires.place in
-    (next.0, next.1)
