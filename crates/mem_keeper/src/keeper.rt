@@ -35,14 +35,13 @@ impl Keeper for MemKeeper {
         ensures call { IsCall result self.old self.new }
     {
         self.begin()?;
-        match commit_batch(
-            self.alloc,
-            &mut self.store,
-            &mut self.indexes,
-            batch,
-        )?;
-        self.commits = self.commits.saturating_add(1);
-        Ok(())
+        match commit_batch(self.alloc, &mut self.store, &mut self.indexes, batch) {
+            Ok(()) => {
+                self.commits = self.commits.saturating_add(1);
+                Ok(())
+            }
+            Err(_) => Err(KeeperFault::Memory),
+        }
     }
 
     fn params(&mut self) -> Result<Option<Params>, KeeperFault>

@@ -22,10 +22,7 @@ pub use change::{Batch, Change};
 pub use digest::Digest;
 pub use inode_row::InodeRow;
 pub use keeper::{Keeper, KeeperFault};
-pub use laws::{
-    absent_deletes_change_nothing, batches_join, batches_keep_order, changes_may_be_repeated,
-    commits_are_folded, forsaken_objects_are_not_clean, made_tables_are_clean, rings_are_not_valid,
-};
+pub use laws::{forsaken_objects_are_not_clean, made_tables_are_clean, rings_are_not_valid};
 pub use lists::{
     EntryList, InodeBlockList, NamedAttr, NamedAttrList, NamedEntry, SlotList, Spot, SpotList,
 };

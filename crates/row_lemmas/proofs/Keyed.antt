@@ -1,0 +1,9 @@
+-- Lists of rows by key, over any order that is total.
+pub mod Count
+pub mod Filter
+pub mod Place
+pub mod Put
+pub mod Rises
+pub mod RowAt
+pub mod Sorted
+pub mod Without

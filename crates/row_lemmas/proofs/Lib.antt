@@ -1,0 +1,5 @@
+pub mod Keyed
+pub mod ReplacedInode
+pub mod Sums
+pub mod Tables
+pub mod Tests
