@@ -1,21 +1,24 @@
 -- The least id whose row has some bytes is that of the first such row.
-use Rattle.std.proofs.Common.{◌≡◌, ℕ, ◌<◌, ◌≤◌, List, [], ◌∷◌, Bool, true, false, Some, None, find, cond, All, take, length, get_or, ◌+◌, refl, sym, ap, ◌∙◌, subst, arith}
-use Rattle.std.specs.List.{list_all, AllByRecursion}
+use Rattle.std.proofs.Common.{◌≡◌, ℕ, ◌<◌, ◌≤◌, List, [], ◌∷◌, Bool, true, false, not, Some, None, find, cond, All, take, length, get_or, ◌+◌, refl, sym, ap, ◌∙◌, subst, arith}
+use Rattle.std.specs.List.{AllByRecursion}
 use Rattle.std.specs.declared.cmp.Ordering.TheVariants.{Less, Equal, Greater}
 use Rattle.std.specs.Ordering.{is_eq, nat_cmp}
 use Rattle.std.specs.Cmp.{nat_cmp_total}
-use Rattle.std.proofs.lemmas.Bool.{and_parts, false≢true, true≢false}
-use Rattle.std.proofs.lemmas.Cmp.{ranked, tied_itself}
+use Rattle.std.proofs.lemmas.Bool.{false≢true, true≢false}
+use Rattle.std.proofs.lemmas.Cmp.{ranked}
 use Rattle.std.proofs.lemmas.List.Elements.{All-more}
 use Rattle.std.proofs.lemmas.Map.Text.{is_eq-slice_cmp}
 use Rattle.std.specs.Cmp.Lexicographic.{bytes_decides}
-use Rattle.s3_rows.specs.Keyed.{Order, rises, row_at, is_past, has_key}
+use Rattle.s3_rows.specs.Keyed.{Order, rises, row_at, is_past}
+use Rattle.row_lemmas.proofs.Tests.{less_from_is_lt, false_from_not, find_none}
+use Rattle.row_lemmas.proofs.Keyed.Rises.{rises_head, rises_tail}
+use Rattle.row_lemmas.proofs.Keyed.RowAt.{row_at_key, row_at_passes, row_at_meets, row_at_head, row_at_later, list_all_from_row_at}
 use Rattle.mem_keeper.specs.declared.index.Index.{Index}
 use Rattle.mem_keeper.specs.Index.{has_id, IsLeast, Covers, IsListed, has_bytes, row_has_bytes}
-use Rattle.mem_keeper.proofs.Place.{is_less, rest_rises, first_below}
 
 -- what holds of the elements so far holds of one more
-pub all_step : {X : Type 0} (P Q : X → Type 0) (xs : List X) (i : ℕ) (x : X) → i < length xs → ((y : X) → P y → Q y) → All P (take i xs) → x ≡ get_or xs i x → Q x → All Q (take (i + 1) xs)
+pub all_step : {X : Type 0} (P Q : X → Type 0) (xs : List X) (i : ℕ) (x : X) → i < length xs → ((y : X) → P y → Q y)
+    → All P (take i xs) → x ≡ get_or xs i x → Q x → All Q (take (i + 1) xs)
 all_step P Q xs i x lt weaker all same here = All-more Q xs i x lt (λ k d below. weaker _ (all k d below)) (subst Q same here)
 
 module _ {R : Type 0} (key : R → ℕ) where
@@ -23,69 +26,48 @@ module _ {R : Type 0} (key : R → ℕ) where
   by_key = record { compare = nat_cmp; key = key }
 
   -- the row of an id has it
-  pub row_has_id : (id : ℕ) (rows : List R) (r : R) → row_at by_key id rows ≡ Some r → key r ≡ id
-  row_has_id id [] r h = absurd (cc)
-  row_has_id id (x ∷ xs) r h =
-      (elim (nat_cmp id (key x)) as (λ v. v ≡ nat_cmp id (key x) → cond (is_eq v) (Some x) (row_at by_key id xs) ≡ Some r → key r ≡ id) [
-        | Less ↦ λ e f. row_has_id id xs r f
-        | Equal ↦ λ e f. let same : x ≡ r = cc in ap key (sym same) ∙ sym (ranked id (key x) Equal e)
-        | Greater ↦ λ e f. row_has_id id xs r f
-      ]) refl h
-
-  -- a test that all rows pass, the row of an id passes
-  passes_all : (p : R → Bool) (id : ℕ) (rows : List R) (r : R) → list_all p rows ≡ true → row_at by_key id rows ≡ Some r → p r ≡ true
-  passes_all p id [] r all h = absurd (cc)
-  passes_all p id (x ∷ xs) r all h =
-      let parts : (p x ≡ true) × (list_all p xs ≡ true) = and_parts (p x) (list_all p xs) all in
-      (elim (has_key by_key id x) as (λ v. cond v (Some x) (row_at by_key id xs) ≡ Some r → p r ≡ true) [
-        | true ↦ λ f. let same : x ≡ r = cc in subst (λ y. p y ≡ true) same parts.0
-        | false ↦ λ f. passes_all p id xs r parts.1 f
-      ]) h
+  row_has_id : (id : ℕ) (rows : List R) (r : R) → row_at by_key id rows ≡ Some r → key r ≡ id
+  row_has_id id rows r found = sym (ranked id (key r) Equal (sym (row_at_key by_key id rows r found)))
 
   -- the first row has a smaller id than a later one
-  below_later : (id : ℕ) (x : R) (xs : List R) (r : R) → rises by_key (x ∷ xs) ≡ true → row_at by_key id xs ≡ Some r → key x < id
+  below_later : (id : ℕ) (x : R) (xs : List R) (r : R) → rises by_key (x ∷ xs) ≡ true → row_at by_key id xs ≡ Some r
+      → key x < id
   below_later id x xs r up h =
-      let past : is_past by_key (key x) r ≡ true = passes_all (is_past by_key (key x)) id xs r (first_below by_key x xs up) h in
-      let less : key x < key r = ranked (key x) (key r) Less (sym (is_less _ past)) in
+      let past : is_past by_key (key x) r ≡ true = row_at_passes by_key (is_past by_key (key x)) id xs r (rises_head by_key x xs up) h in
+      let less : key x < key r = ranked (key x) (key r) Less (sym (less_from_is_lt _ past)) in
       omega (arith, row_has_id id xs r h)
-
-  pub later_row : (id : ℕ) (x : R) (xs : List R) (r : R) → rises by_key (x ∷ xs) ≡ true → row_at by_key id xs ≡ Some r → row_at by_key id (x ∷ xs) ≡ Some r
-  later_row id x xs r up h =
-      let less : key x < id = below_later id x xs r up h in
-      (elim (nat_cmp id (key x)) as (λ v. v ≡ nat_cmp id (key x) → cond (is_eq v) (Some x) (row_at by_key id xs) ≡ Some r) [
-        | Less ↦ λ e. h
-        | Equal ↦ λ e. let same : id ≡ key x = ranked id (key x) Equal e in absurd (omega arith)
-        | Greater ↦ λ e. h
-      ]) refl
-
-  pub first_row : (x : R) (xs : List R) → row_at by_key (key x) (x ∷ xs) ≡ Some x
-  first_row x xs = rw (tied_itself nat_cmp_total (key x)) refl
 
   cases_false : (b : Bool) → (b ≡ true → ⊥) → b ≡ false
   cases_false true h = absurd (h refl)
   cases_false false h = refl
 
-  passing : (bytes : R → List ℕ) (rows : List R) (wanted : List ℕ) (id : ℕ) (r : R) → row_at by_key id rows ≡ Some r → has_bytes bytes wanted r ≡ true → row_has_bytes by_key bytes rows wanted id ≡ true
+  passing : (bytes : R → List ℕ) (rows : List R) (wanted : List ℕ) (id : ℕ) (r : R) → row_at by_key id rows ≡ Some r
+      → has_bytes bytes wanted r ≡ true → row_has_bytes by_key bytes rows wanted id ≡ true
   passing bytes rows wanted id r there same_bytes = ap (λ v. elim v [ None ↦ false | Some s ↦ has_bytes bytes wanted s ]) there ∙ same_bytes
 
-  listed_id : (bytes : R → List ℕ) (x : Index) (rows : List R) (wanted ids : List ℕ) → Covers by_key bytes x rows → ((id : ℕ) → IsListed x wanted id → has_id id ids ≡ true) → (id : ℕ) (r : R) → row_at by_key id rows ≡ Some r → has_bytes bytes wanted r ≡ true → has_id id ids ≡ true
+  listed_id : (bytes : R → List ℕ) (x : Index) (rows : List R) (wanted ids : List ℕ) → Covers by_key bytes x rows
+      → ((id : ℕ) → IsListed x wanted id → has_id id ids ≡ true) → (id : ℕ) (r : R) → row_at by_key id rows ≡ Some r
+      → has_bytes bytes wanted r ≡ true → has_id id ids ≡ true
   listed_id bytes x rows wanted ids covers all id r there same_bytes =
       let same : bytes r ≡ wanted = (bytes_decides (bytes r) wanted).0 (sym (is_eq-slice_cmp (bytes r) wanted) ∙ same_bytes) in
       all id (subst (λ l. IsListed x l id) same (covers id r there))
 
-  find_none : (p : R → Bool) (rows : List R) → rises by_key rows ≡ true → ((id : ℕ) (r : R) → row_at by_key id rows ≡ Some r → p r ≡ false) → find p rows ≡ None
-  find_none p [] up none = refl
-  find_none p (x ∷ xs) up none = rw (none (key x) x (first_row x xs)) (find_none p xs (rest_rises by_key x xs up) (λ id r h. none id r (later_row id x xs r up h)))
+  none_found : (p : R → Bool) (rows : List R) → rises by_key rows ≡ true
+      → ((id : ℕ) (r : R) → row_at by_key id rows ≡ Some r → p r ≡ false) → find p rows ≡ None
+  none_found p rows up none =
+      find_none p (λ r. not (p r)) (λ r fails. false_from_not (p r) fails) rows (list_all_from_row_at by_key nat_cmp_total (λ r. not (p r)) rows up (λ id r there. ap not (none id r there)))
 
-  find_least : (p : R → Bool) (rows : List R) (least : ℕ) (found : R) → rises by_key rows ≡ true → row_at by_key least rows ≡ Some found → p found ≡ true → ((id : ℕ) (r : R) → row_at by_key id rows ≡ Some r → p r ≡ true → least ≤ id) → find p rows ≡ Some found
+  find_least : (p : R → Bool) (rows : List R) (least : ℕ) (found : R) → rises by_key rows ≡ true
+      → row_at by_key least rows ≡ Some found → p found ≡ true
+      → ((id : ℕ) (r : R) → row_at by_key id rows ≡ Some r → p r ≡ true → least ≤ id) → find p rows ≡ Some found
   find_least p [] least found up at passes below = absurd (cc)
   find_least p (x ∷ xs) least found up at passes below =
       let not_first : row_at by_key least xs ≡ Some found → p x ≡ false = λ f. cases_false (p x) (λ same_bytes.
       let low : key x < least = below_later least x xs found up f in
-      let high : least ≤ key x = below (key x) x (first_row x xs) same_bytes in
+      let high : least ≤ key x = below (key x) x (row_at_head by_key nat_cmp_total x xs) same_bytes in
       omega arith) in
       let later : row_at by_key least xs ≡ Some found → find p (x ∷ xs) ≡ Some found = λ f.
-      rw (not_first f) (find_least p xs least found (rest_rises by_key x xs up) f passes (λ id r h same_bytes. below id r (later_row id x xs r up h) same_bytes)) in
+      rw (not_first f) (find_least p xs least found (rises_tail by_key x xs up) f passes (λ id r h same_bytes. below id r (row_at_later by_key nat_cmp_total id x xs r up h) same_bytes)) in
       (elim (nat_cmp least (key x)) as (λ v. v ≡ nat_cmp least (key x) → cond (is_eq v) (Some x) (row_at by_key least xs) ≡ Some found → find p (x ∷ xs) ≡ Some found) [
         | Less ↦ λ e f. later f
         | Equal ↦ λ e f. let same : x ≡ found = cc in rw (ap p same ∙ passes) f
@@ -93,11 +75,17 @@ module _ {R : Type 0} (key : R → ℕ) where
       ]) refl at
 
   -- the row of the least listed id that has the bytes is the first that has them
-  pub first_none : (bytes : R → List ℕ) (x : Index) (rows : List R) (wanted ids : List ℕ) → rises by_key rows ≡ true → Covers by_key bytes x rows → ((id : ℕ) → IsListed x wanted id → has_id id ids ≡ true) → IsLeast (row_has_bytes by_key bytes rows wanted) ids None → find (has_bytes bytes wanted) rows ≡ None
+  pub first_none : (bytes : R → List ℕ) (x : Index) (rows : List R) (wanted ids : List ℕ) → rises by_key rows ≡ true
+      → Covers by_key bytes x rows → ((id : ℕ) → IsListed x wanted id → has_id id ids ≡ true)
+      → IsLeast (row_has_bytes by_key bytes rows wanted) ids None → find (has_bytes bytes wanted) rows ≡ None
   first_none bytes x rows wanted ids up covers all none =
-      find_none (has_bytes bytes wanted) rows up (λ id r there. cases_false (has_bytes bytes wanted r) (λ same_bytes. true≢false (sym (passing bytes rows wanted id r there same_bytes) ∙ none id (listed_id bytes x rows wanted ids covers all id r there same_bytes))))
+      none_found (has_bytes bytes wanted) rows up (λ id r there. cases_false (has_bytes bytes wanted r) (λ same_bytes. true≢false (sym (passing bytes rows wanted id r there same_bytes) ∙ none id (listed_id bytes x rows wanted ids covers all id r there same_bytes))))
 
-  pub first_some : (bytes : R → List ℕ) (x : Index) (rows : List R) (wanted ids : List ℕ) (least : ℕ) → rises by_key rows ≡ true → Covers by_key bytes x rows → ((id : ℕ) → IsListed x wanted id → has_id id ids ≡ true) → IsLeast (row_has_bytes by_key bytes rows wanted) ids (Some least) → row_at by_key least rows ≡ find (has_bytes bytes wanted) rows
+  pub first_some : (bytes : R → List ℕ) (x : Index) (rows : List R) (wanted ids : List ℕ) (least : ℕ)
+      → rises by_key rows ≡ true → Covers by_key bytes x rows
+      → ((id : ℕ) → IsListed x wanted id → has_id id ids ≡ true)
+      → IsLeast (row_has_bytes by_key bytes rows wanted) ids (Some least)
+      → row_at by_key least rows ≡ find (has_bytes bytes wanted) rows
   first_some bytes x rows wanted ids least up covers all h =
       (elim (row_at by_key least rows) as (λ v. v ≡ row_at by_key least rows → v ≡ find (has_bytes bytes wanted) rows) [
         | None ↦ λ e. absurd (false≢true (ap (λ v. elim v [ None ↦ false | Some r ↦ has_bytes bytes wanted r ]) e ∙ h.0))
@@ -105,20 +93,14 @@ module _ {R : Type 0} (key : R → ℕ) where
       ]) refl
 
   -- a test of the row of an id by bytes that failed: no row there has the bytes
-  pub not_these : (bytes : R → List ℕ) (rows : List R) (wanted : List ℕ) (own id : ℕ) (r : R) → row_has_bytes by_key bytes rows wanted own ≡ false → row_at by_key id rows ≡ Some r → bytes r ≡ wanted → id ≡ own → ⊥
+  pub not_these : (bytes : R → List ℕ) (rows : List R) (wanted : List ℕ) (own id : ℕ) (r : R)
+      → row_has_bytes by_key bytes rows wanted own ≡ false → row_at by_key id rows ≡ Some r → bytes r ≡ wanted
+      → id ≡ own → ⊥
   not_these bytes rows wanted own id r fails there same here =
       let has : has_bytes bytes wanted r ≡ true = is_eq-slice_cmp (bytes r) wanted ∙ (bytes_decides (bytes r) wanted).1 same in
       true≢false (sym (passing bytes rows wanted id r there has) ∙ subst (λ n. row_has_bytes by_key bytes rows wanted n ≡ false) (sym here) fails)
 
-  -- what all rows meet, the row of an id meets
-  pub row_meets : (P : R → Type 0) (id : ℕ) (rows : List R) (r : R) → AllByRecursion P rows → row_at by_key id rows ≡ Some r → P r
-  row_meets P id [] r all h = absurd (cc)
-  row_meets P id (x ∷ xs) r all h =
-      (elim (has_key by_key id x) as (λ v. cond v (Some x) (row_at by_key id xs) ≡ Some r → P r) [
-        | true ↦ λ f. let same : x ≡ r = cc in subst P same all.0
-        | false ↦ λ f. row_meets P id xs r all.1 f
-      ]) h
-
   -- all rows are listed
-  pub covers_all : (bytes : R → List ℕ) (x : Index) (rows : List R) → AllByRecursion (λ r. IsListed x (bytes r) (key r)) rows → Covers by_key bytes x rows
-  covers_all bytes x rows all id r there = subst (IsListed x (bytes r)) (row_has_id id rows r there) (row_meets (λ s. IsListed x (bytes s) (key s)) id rows r all there)
+  pub covers_all : (bytes : R → List ℕ) (x : Index) (rows : List R)
+      → AllByRecursion (λ r. IsListed x (bytes r) (key r)) rows → Covers by_key bytes x rows
+  covers_all bytes x rows all id r there = subst (IsListed x (bytes r)) (row_has_id id rows r there) (row_at_meets by_key (λ s. IsListed x (bytes s) (key s)) id rows r all there)

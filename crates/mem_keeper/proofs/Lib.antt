@@ -1,4 +1,3 @@
 pub mod Least
 pub mod Listed
-pub mod Place
 pub mod Standing

@@ -1,5 +1,4 @@
 pub mod Index
 pub mod Indexes
 pub mod Memory
-pub mod Places
 pub mod Store

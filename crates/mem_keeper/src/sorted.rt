@@ -3,7 +3,7 @@ ghost use Rattle.std.specs.Prelude.{◌≡◌, ◌+◌, ◌<◌, ◌≤◌, leng
 ghost use Rattle.std.specs.Vec.{vec_len, vec_capacity};
 ghost use Rattle.s3_rows.specs.Keyed.{Order, rises, put, without, row_at};
 ghost use Rattle.std.specs.List.Sorted.{IsSearchInRange};
-ghost use Rattle.mem_keeper.specs.Places.{Stands, GoesAt};
+ghost use Rattle.row_lemmas.specs.Places.{Stands, GoesAt};
 
 use crate::keyed::Keyed;
 use std::mem::replace;

@@ -1,24 +1,15 @@
 -- Look-ups of names by their numbers.
-use Rattle.std.proofs.Common.{◌≡◌, ℕ, zero, suc, ◌+◌, ◌<◌, ◌≤◌, List, [], ◌∷◌, Bool, true, false, None, Some, refl, sym, ap, ◌∙◌, subst, arith, length, drop, get_or, nat_lt}
-use Rattle.std.specs.List.{find, list_all}
-use Rattle.std.proofs.lemmas.Bool.{and_parts, cond-true, cond-false}
+use Rattle.std.proofs.Common.{◌≡◌, ℕ, zero, suc, ◌+◌, ◌<◌, ◌≤◌, List, [], ◌∷◌, true, false, None, Some, refl, sym, ap, ◌∙◌, subst, arith, length, drop, get_or, nat_lt}
+use Rattle.std.specs.List.{find}
+use Rattle.std.proofs.lemmas.Bool.{cond-true, cond-false}
 use Rattle.std.proofs.lemmas.Bool.Decides.{nat_tests}
 use Rattle.std.proofs.lemmas.List.{drop_more, drop_all}
 use Rattle.s3_rows.specs.Rows.{Name}
-use Rattle.s3_rows.specs.Keyed.{Order, is_past, has_key, rises, row_at}
+use Rattle.s3_rows.specs.Keyed.{is_past, has_key, rises, row_at}
 use Rattle.s3_rows.specs.Tables.{by_name}
+use Rattle.row_lemmas.proofs.Tests.{find_none}
+use Rattle.row_lemmas.proofs.Keyed.Rises.{rises-drop, rises_head}
 use Rattle.row_lists.specs.Listing.{IsPlaceOf}
-
-rises-drop : {K R : Type 0} (o : Order K R) (n : ℕ) (xs : List R) → rises o xs ≡ true → rises o (drop n xs) ≡ true
-rises-drop o zero xs up = up
-rises-drop o (suc n) [] up = refl
-rises-drop o (suc n) (x ∷ xs) up = rises-drop o n xs (and_parts (list_all (is_past o (o.key x)) xs) (rises o xs) up).1
-
-none-found : {R : Type 0} (p q : R → Bool) → ((x : R) → q x ≡ true → p x ≡ false) → (xs : List R) → list_all q xs ≡ true → find p xs ≡ None
-none-found p q fails [] all = refl
-none-found p q fails (x ∷ xs) all =
-    let parts : (q x ≡ true) × (list_all q xs ≡ true) = and_parts (q x) (list_all q xs) all in
-    cond-false (p x) (Some x) (find p xs) (fails x parts.0) ∙ none-found p q fails xs parts.1
 
 lower : (m n : ℕ) (r : Name) → r.id ≡ m → nat_lt m n ≡ true → has_key by_name n r ≡ false
 lower m n r is low = grind (arith, nat_tests)
@@ -61,4 +52,4 @@ name_missing id xs i x up place inside read is =
     sym (skipped id xs i place.0 (λ k d below. place.1.0 k d (omega arith) below)
     ∙ ap (find (has_key by_name id)) parts
     ∙ cond-false (has_key by_name id x) (Some x) (find (has_key by_name id) (drop (i + 1) xs)) (different id x is)
-    ∙ none-found (has_key by_name id) (is_past by_name x.id) (λ y later. higher id x y low later) (drop (i + 1) xs) (and_parts (list_all (is_past by_name x.id) (drop (i + 1) xs)) (rises by_name (drop (i + 1) xs)) after).0)
+    ∙ find_none (has_key by_name id) (is_past by_name x.id) (λ y later. higher id x y low later) (drop (i + 1) xs) (rises_head by_name x (drop (i + 1) xs) after))

@@ -1,13 +1,14 @@
 -- Pages of tables.
 use Rattle.std.proofs.Common.{◌≡◌, ℕ, List, [], ◌∷◌, Bool, true, false, not, ◌&&◌, cond, refl, sym, ap, ◌∙◌, subst, arith, length, take, drop, min, ◌≤◌, ◌-◌}
-use Rattle.std.specs.Prelude.{nat_le, nat_lt, map}
+use Rattle.std.specs.Prelude.{IsTrue, nat_le, nat_lt, map}
 use Rattle.std.specs.List.{filter, list_all}
 use Rattle.std.specs.List.Sorted.{IsPartitionedBy, IsPartitionPoint}
 use Rattle.std.specs.Ordering.{is_lt, nat_cmp}
 use Rattle.std.proofs.Math.Nat.{min_comm}
-use Rattle.std.proofs.lemmas.Bool.{and_parts, and_from}
+use Rattle.std.proofs.lemmas.Bool.{and_from}
 use Rattle.std.proofs.lemmas.Bool.Decides.{nat_tests}
 use Rattle.std.proofs.lemmas.List.{take-map, take_all, take_min, take_rest}
+use Rattle.std.proofs.lemmas.List.Folds.{list_all-map}
 use Rattle.s3_rows.specs.declared.table_rows.Row.{Row}
 use Rattle.s3_rows.specs.declared.table_rows.Row.TheVariants as rows
 use Rattle.s3_rows.specs.declared.table_rows.RowKey.{RowKey}
@@ -18,7 +19,9 @@ use Rattle.s3_rows.specs.Keyed.{Order, is_past, rises, pair_cmp}
 use Rattle.s3_rows.specs.Tables.{by_inode, by_name, by_entry, by_spot, by_block, by_object, by_target, by_attr, by_slot}
 use Rattle.s3_rows.specs.Selections.{is_number_past, is_pair_past, is_row_past}
 use Rattle.s3_rows.specs.Told.{key_of_row, rows_rise, is_row_of, is_page_of}
-use Rattle.row_lists.proofs.ListingOrder.{all-map, all-any, all-take, all-filtered, short-take, rises-take, rises-filter, parted, behind}
+use Rattle.row_lemmas.proofs.Tests.{list_all_weaker, list_all_true, list_all-take, list_all-filter_same}
+use Rattle.row_lemmas.proofs.Keyed.Rises.{rises_head, rises_tail, rises-take, rises-filter}
+use Rattle.row_lists.proofs.ListingOrder.{short-take, parted, behind}
 
 -- ---- keys of one part and of two
 
@@ -84,7 +87,7 @@ back false b on not_b = refl
 
 pub parts : {K R : Type 0} (o : Order K R) (table : TableName) (of : R → Row) (is : IsTable o table of) (after : RowKey) (xs : List R) → rises o xs ≡ true → IsPartitionedBy (λ x. not (is_row_past after (of x))) xs
 parts o table of is after xs up =
-    parted o (λ x. true) (λ x. not (is_row_past after (of x))) xs up (all-any xs) (λ x y _ later late. back (is_row_past after (of x)) (is_row_past after (of y)) (is.on after x y later) late)
+    parted o (λ x. true) (λ x. not (is_row_past after (of x))) xs up (list_all_true xs) (λ x y _ later late. back (is_row_past after (of x)) (is_row_past after (of y)) (is.on after x y later) late)
 
 filter-map-at : {R S : Type 0} (f : R → S) (b : Bool) (x : R) (xs : List R) (ys : List S) → ys ≡ map f xs → cond b (f x ∷ ys) ys ≡ map f (cond b (x ∷ xs) xs)
 filter-map-at f true x xs ys same = ap (λ l. f x ∷ l) same
@@ -97,9 +100,10 @@ filter-map f p (x ∷ xs) = filter-map-at f (p (f x)) x (filter (λ y. p (f y)) 
 rows_rise-map : {K R : Type 0} (o : Order K R) (table : TableName) (of : R → Row) (is : IsTable o table of) (xs : List R) → rises o xs ≡ true → rows_rise (map of xs) ≡ true
 rows_rise-map o table of is [] up = refl
 rows_rise-map o table of is (x ∷ xs) up =
-    let two : (list_all (is_past o (o.key x)) xs ≡ true) × (rises o xs ≡ true) = and_parts (list_all (is_past o (o.key x)) xs) (rises o xs) up in
+    let later : IsTrue (list_all (λ y. is_row_past (key_of_row (of x)) (of y)) xs) =
+    list_all_weaker (is_past o (o.key x)) (λ y. is_row_past (key_of_row (of x)) (of y)) (λ y past. is.past x y ∙ past) xs (rises_head o x xs up) in
     and_from (list_all (is_row_past (key_of_row (of x))) (map of xs)) (rows_rise (map of xs))
-    (all-map of (is_past o (o.key x)) (is_row_past (key_of_row (of x))) (λ y later. is.past x y ∙ later) xs two.0) (rows_rise-map o table of is xs two.1)
+    (list_all-map (is_row_past (key_of_row (of x))) of xs ∙ later) (rows_rise-map o table of is xs (rises_tail o x xs up))
 
 pub paged : {K R : Type 0} (o : Order K R) (table : TableName) (of : R → Row) (is : IsTable o table of) (after : RowKey) (max : ℕ) (xs : List R) → rises o xs ≡ true
     → is_page_of table after max (take max (filter (is_row_past after) (map of xs))) ≡ true
@@ -108,13 +112,13 @@ paged o table of is after max xs up =
     let some : List _ = take max (filter (λ x. is_row_past after (of x)) xs) in
     let same : map of some ≡ take max all = sym (take-map of max (filter (λ x. is_row_past after (of x)) xs)) ∙ ap (take max) (sym (filter-map of (is_row_past after) xs)) in
     let among : list_all (is_row_of table) (take max all) ≡ true =
-    subst (λ (l : List Row). list_all (is_row_of table) l ≡ true) same (all-map of (λ x. true) (is_row_of table) (λ x _. is.here x) some (all-any some)) in
+    subst (λ (l : List Row). list_all (is_row_of table) l ≡ true) same (list_all-map (is_row_of table) of some ∙ list_all_weaker (λ x. true) (λ x. is_row_of table (of x)) (λ x _. is.here x) some (list_all_true some)) in
     let rise : rows_rise (take max all) ≡ true =
     subst (λ (l : List Row). rows_rise l ≡ true) same (rows_rise-map o table of is some (rises-take o max (filter (λ x. is_row_past after (of x)) xs) (rises-filter o (λ x. is_row_past after (of x)) xs up))) in
     and_from (nat_le (length (take max all)) max && list_all (is_row_of table) (take max all) && list_all (is_row_past after) (take max all)) (rows_rise (take max all))
     (and_from (nat_le (length (take max all)) max && list_all (is_row_of table) (take max all)) (list_all (is_row_past after) (take max all))
     (and_from (nat_le (length (take max all)) max) (list_all (is_row_of table) (take max all)) (short-take max all) among)
-    (all-take (is_row_past after) max all (all-filtered (is_row_past after) (map of xs)))) rise
+    (list_all-take (is_row_past after) max all (list_all-filter_same (is_row_past after) (map of xs)))) rise
 
 -- ---- rows that are copied one after the other
 

@@ -8,7 +8,9 @@ use Rattle.std.proofs.lemmas.List.Elements.{filter_agree}
 use Rattle.s3_rows.specs.Rows.{Content, Attr}
 use Rattle.s3_rows.specs.Keyed.{Order, is_past, rises}
 use Rattle.s3_rows.specs.Tables.{by_entry, by_attr}
-use Rattle.row_lists.proofs.ListingOrder.{parted, behind, before, all-any, all-filtered, rises-filter, filter-both}
+use Rattle.row_lemmas.proofs.Tests.{list_all_true, list_all-filter_same}
+use Rattle.row_lemmas.proofs.Keyed.Rises.{rises-filter}
+use Rattle.row_lists.proofs.ListingOrder.{parted, behind, before, filter-both}
 
 -- ---- the first part of the keys, which does not fall
 
@@ -39,7 +41,7 @@ attrs_climb = record { up = λ x y later. attr_up x y later }
 -- ---- the run of one number
 
 pub starts : {K R : Type 0} (o : Order K R) (first : R → ℕ) (climbs : Climbs o first) (n : ℕ) (xs : List R) → rises o xs ≡ true → IsPartitionedBy (λ x. nat_lt (first x) n) xs
-starts o first climbs n xs up = parted o (λ x. true) (λ x. nat_lt (first x) n) xs up (all-any xs) (λ x y _ later low. lower (first x) (first y) n (climbs.up x y later) low)
+starts o first climbs n xs up = parted o (λ x. true) (λ x. nat_lt (first x) n) xs up (list_all_true xs) (λ x y _ later low. lower (first x) (first y) n (climbs.up x y later) low)
 
 left_is : {R : Type 0} (first : R → ℕ) (n : ℕ) (xs : List R) (start : ℕ) → start ≤ length xs → IsPartitionPoint (λ x. nat_lt (first x) n ≡ true) (λ x. nat_lt (first x) n ≡ false) xs start
     → filter (λ x. not (nat_lt (first x) n)) xs ≡ take (length xs - start) (drop start xs)
@@ -51,7 +53,7 @@ goes_on {K} {R} o first climbs n xs start up within point =
     let is : filter (λ x. not (nat_lt (first x) n)) xs ≡ take (length xs - start) (drop start xs) = left_is first n xs start within point in
     parted o (λ x. not (nat_lt (first x) n)) (λ x. first x == n) (take (length xs - start) (drop start xs))
     (subst (λ (l : List R). rises o l ≡ true) is (rises-filter o (λ x. not (nat_lt (first x) n)) xs up))
-    (subst (λ (l : List R). list_all (λ x. not (nat_lt (first x) n)) l ≡ true) is (all-filtered (λ x. not (nat_lt (first x) n)) xs))
+    (subst (λ (l : List R). list_all (λ x. not (nat_lt (first x) n)) l ≡ true) is (list_all-filter_same (λ x. not (nat_lt (first x) n)) xs))
     (λ x y reached later here. same (first x) (first y) n reached (climbs.up x y later) here)
 
 pub run_is : {R : Type 0} (first : R → ℕ) (n : ℕ) (xs : List R) (start count : ℕ) → start ≤ length xs → IsPartitionPoint (λ x. nat_lt (first x) n ≡ true) (λ x. nat_lt (first x) n ≡ false) xs start

@@ -1,6 +1,6 @@
 use Rattle.std.proofs.Common.{rules}
 use Rattle.std.proofs.lemmas.List.Sorted.{answers_always}
-use Rattle.mem_keeper.proofs.Place.{searched}
+use Rattle.row_lemmas.proofs.Keyed.Place.{Stands_from_search}
 use Rattle.mem_keeper.proofs.sorted.place.Goals as goal
 
 -- the closure gives a row's key
@@ -8,10 +8,10 @@ pub returns-clause-found : goal.returns-clause-found
 returns-clause-found g c =
     let facts = c.binary_search_by_key.ensures in
     let by_key = facts.position g.R.Keyed.key (answers_always _ _ _ (λ f a r h called. search rules)) in
-    (searched record { compare = g.R.Key.Ord.cmp; key = g.R.Keyed.key } g.met.R.Key.Ord.total c.args.key c.args.rows.now _ c.requires facts.bound by_key).0
+    (Stands_from_search record { compare = g.R.Key.Ord.cmp; key = g.R.Keyed.key } g.met.R.Key.Ord.total c.args.key c.args.rows.now _ c.requires facts.bound by_key).0
 
 pub returns-clause-absent : goal.returns-clause-absent
 returns-clause-absent g c =
     let facts = c.binary_search_by_key.ensures in
     let by_key = facts.position g.R.Keyed.key (answers_always _ _ _ (λ f a r h called. search rules)) in
-    (searched record { compare = g.R.Key.Ord.cmp; key = g.R.Keyed.key } g.met.R.Key.Ord.total c.args.key c.args.rows.now _ c.requires facts.bound by_key).1
+    (Stands_from_search record { compare = g.R.Key.Ord.cmp; key = g.R.Keyed.key } g.met.R.Key.Ord.total c.args.key c.args.rows.now _ c.requires facts.bound by_key).1

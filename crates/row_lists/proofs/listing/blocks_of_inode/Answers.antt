@@ -11,7 +11,9 @@ use Rattle.s3_rows.specs.Rows.{InodeBlock}
 use Rattle.s3_rows.specs.Tables.{by_spot}
 use Rattle.s3_rows.specs.Keyed.{is_past, rises, pair_cmp}
 use Rattle.s3_rows.specs.Told.{is_run_of}
-use Rattle.row_lists.proofs.ListingOrder.{parted, behind, before, all-any, all-filtered, rises-filter, first-filtered, filter-both}
+use Rattle.row_lemmas.proofs.Tests.{list_all_true, list_all-filter_same}
+use Rattle.row_lemmas.proofs.Keyed.Rises.{rises-filter}
+use Rattle.row_lists.proofs.ListingOrder.{parted, behind, before, first-filtered, filter-both}
 use Rattle.row_lists.proofs.listing.blocks_of_inode.Goals as goal
 
 abbrev early : ℕ → ℕ → InodeBlock → Bool
@@ -40,7 +42,7 @@ left_is : (c : goal.After-first_rows) → filter (reached c.args.inode c.args.fr
 left_is c =
     let point : IsPartitionPoint (λ y. early c.args.inode c.args.from y ≡ true) (λ y. early c.args.inode c.args.from y ≡ false) c.args.inode_blocks.now c.partition_point-start.result =
     IsPartitionPoint-from_clause (early c.args.inode c.args.from) _ _ c.partition_point-start.ensures.partitioned
-    (parted by_spot (λ (r : InodeBlock). true) (early c.args.inode c.args.from) c.args.inode_blocks.now c.requires (all-any c.args.inode_blocks.now) (early_back c.args.inode c.args.from))
+    (parted by_spot (λ (r : InodeBlock). true) (early c.args.inode c.args.from) c.args.inode_blocks.now c.requires (list_all_true c.args.inode_blocks.now) (early_back c.args.inode c.args.from))
     (λ a r q k. search rules) in
     behind (reached c.args.inode c.args.from) (early c.args.inode c.args.from) (λ x. refl) c.args.inode_blocks.now c.partition_point-start.result c.partition_point-start.ensures.bound point
     ∙ sym (take_rest c.args.inode_blocks.now c.partition_point-start.result)
@@ -52,7 +54,7 @@ listed c =
     IsPartitionPoint-from_clause (λ (y : InodeBlock). y.inode == c.args.inode) _ _ c.partition_point-count.ensures.partitioned
     (parted by_spot (reached c.args.inode c.args.from) (λ (y : InodeBlock). y.inode == c.args.inode) (left c)
     (subst (λ (rows : List InodeBlock). rises by_spot rows ≡ true) (left_is c) (rises-filter by_spot (reached c.args.inode c.args.from) c.args.inode_blocks.now c.requires))
-    (subst (λ (rows : List InodeBlock). list_all (reached c.args.inode c.args.from) rows ≡ true) (left_is c) (all-filtered (reached c.args.inode c.args.from) c.args.inode_blocks.now))
+    (subst (λ (rows : List InodeBlock). list_all (reached c.args.inode c.args.from) rows ≡ true) (left_is c) (list_all-filter_same (reached c.args.inode c.args.from) c.args.inode_blocks.now))
     (same_back c.args.inode c.args.from))
     (λ a r q k. search rules) in
     sym (before (λ (y : InodeBlock). y.inode == c.args.inode) (left c) c.partition_point-count.result c.partition_point-count.ensures.bound point)

@@ -7,7 +7,8 @@ use Rattle.s3_rows.specs.Rows.{Object}
 use Rattle.s3_rows.specs.Tables.{by_object}
 use Rattle.s3_rows.specs.Keyed.{is_past, rises}
 use Rattle.s3_rows.specs.Told.{is_page, by_number}
-use Rattle.row_lists.proofs.ListingOrder.{first-filtered, rises-filter, rises-map}
+use Rattle.row_lemmas.proofs.Keyed.Rises.{rises-filter, rises-map}
+use Rattle.row_lists.proofs.ListingOrder.{first-filtered}
 use Rattle.row_lists.proofs.listing.free_objects_of.Goals as goal
 
 abbrev free : List Object → List Object

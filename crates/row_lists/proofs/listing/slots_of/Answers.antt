@@ -9,7 +9,8 @@ use Rattle.s3_rows.specs.Rows.{Slot}
 use Rattle.s3_rows.specs.Tables.{by_slot}
 use Rattle.s3_rows.specs.Keyed.{is_past}
 use Rattle.s3_rows.specs.Told.{is_run_of_slots}
-use Rattle.row_lists.proofs.ListingOrder.{parted, behind, all-any, first-filtered}
+use Rattle.row_lemmas.proofs.Tests.{list_all_true}
+use Rattle.row_lists.proofs.ListingOrder.{parted, behind, first-filtered}
 use Rattle.row_lists.proofs.listing.slots_of.Goals as goal
 
 rest : (c : goal.After-first_rows) → filter (λ (r : Slot). nat_le c.args.from r.slot) c.args.slots.now ≡ drop c.partition_point-start.result c.args.slots.now
@@ -17,7 +18,7 @@ rest c =
     let back : (x y : Slot) → true ≡ true → is_past by_slot (by_slot.key x) y ≡ true → nat_lt y.slot c.args.from ≡ true → nat_lt x.slot c.args.from ≡ true = λ x y _ is below. grind (arith, nat_tests) in
     let point : IsPartitionPoint (λ (y : Slot). nat_lt y.slot c.args.from ≡ true) (λ (y : Slot). nat_lt y.slot c.args.from ≡ false) c.args.slots.now c.partition_point-start.result =
     IsPartitionPoint-from_clause (λ (r : Slot). nat_lt r.slot c.args.from) _ _ c.partition_point-start.ensures.partitioned
-    (parted by_slot (λ (r : Slot). true) (λ (r : Slot). nat_lt r.slot c.args.from) c.args.slots.now c.requires (all-any c.args.slots.now) back)
+    (parted by_slot (λ (r : Slot). true) (λ (r : Slot). nat_lt r.slot c.args.from) c.args.slots.now c.requires (list_all_true c.args.slots.now) back)
     (λ a r q k. search rules) in
     behind (λ (r : Slot). nat_le c.args.from r.slot) (λ (r : Slot). nat_lt r.slot c.args.from) (λ x. grind (arith, nat_tests)) c.args.slots.now c.partition_point-start.result
     c.partition_point-start.ensures.bound point

@@ -6,8 +6,8 @@ use Rattle.s3_rows.specs.Keyed.{row_at}
 use Rattle.s3_rows.specs.Tables.{by_name}
 use Rattle.s3_rows.specs.Told.{has_short_name}
 use Rattle.row_lists.specs.Listing.{by_bytes, kept, with_name, place_in}
-use Rattle.row_lists.proofs.ListingOrder.{all-take}
-use Rattle.row_lists.proofs.ListingPut.{all-behind, kept-beyond}
+use Rattle.row_lemmas.proofs.Tests.{list_all-take}
+use Rattle.row_lists.proofs.ListingPut.{list_all-put_behind, kept-beyond}
 use Rattle.row_lists.proofs.listing.named.keep_named.Goals as goal
 
 pub returns-then-place-max-clause-kept : goal.returns-then-place-max-clause-kept
@@ -31,5 +31,5 @@ returns-clause-short g c = λ all.
     ap g.T.Named.name_of made ∙ g.met.T.NamedFrom.keeps_name c.args.row.now c.found.inside.name ∙ ap (λ (r : Name). r.name) c.found.view_is in
     let one : has_short_name (g.T.Named.name_of c.in_ok-make.field-0) ≡ true = ap has_short_name named ∙ c.in-Some.ensures.short in
     subst (λ (l : List g.row.T.Denot). list_all (λ x. has_short_name (g.T.Named.name_of x)) l ≡ true) (sym (c.truncate.ensures.items ∙ ap (take c.args.max) c.in_ok-put_named.ensures))
-    (all-take (λ x. has_short_name (g.T.Named.name_of x)) c.args.max _
-    (all-behind (by_bytes g.T.Named.name_of) (λ x. has_short_name (g.T.Named.name_of x)) c.in_ok-make.field-0 c.args.items.now.items one all))
+    (list_all-take (λ x. has_short_name (g.T.Named.name_of x)) c.args.max _
+    (list_all-put_behind (by_bytes g.T.Named.name_of) (λ x. has_short_name (g.T.Named.name_of x)) c.in_ok-make.field-0 c.args.items.now.items one all))
