@@ -15,7 +15,7 @@ use Rattle.s3_rows.specs.Keyed.{has_key}
 use Rattle.s3_rows.specs.Tables.{Tables, by_inode}
 use Rattle.s3_rows.specs.Selections.{inode_at, target_at}
 use Rattle.s3_rows.specs.Validity.{IsValid, has_its_size, is_number}
-use Rattle.s3_rows.proofs.Finding.{found_all}
+use Rattle.row_lemmas.proofs.Tests.{find_passes_all}
 use Rattle.tree_rows.specs.Attrs.{attr_of_row}
 use Rattle.tree_rows.specs.Shapes.{ContentShape, Regular, Directory, Link, NodeShape, shape_of_content, shape_of_node, node_of_row, Represents}
 use Rattle.tree_rows.proofs.Replaced.{node_of}
@@ -87,7 +87,7 @@ pub attr_alike : (t : Tables) (whole : Tree) (x : ℕ) (r : Inode) (node : Node)
     → attr_of whole x node ≡ attr_of_row r
 attr_alike t whole x r node v same is below shape =
     let content : shape_of_content node.content ≡ content_of_kind t r r.kind = ap (λ (s : NodeShape). s.content) shape in
-    let size_test : IsTrue (has_its_size t r) = found_all (has_key by_inode x) (has_its_size t) t.inodes r v.sizes.inodes is in
+    let size_test : IsTrue (has_its_size t r) = find_passes_all (has_key by_inode x) (has_its_size t) t.inodes r v.sizes.inodes is in
     let kind : kind_of node.content ≡ r.kind = kind_alike node.content ∙ ap kind_of_shape content ∙ kind_of_row t r r.kind in
     let size : size_of node.content ≡ r.size = size_alike node.content ∙ ap size_of_shape content ∙ size_of_row t r r.kind size_test in
     let links : link_count whole x ≡ r.refcount = links_of t whole x r v same is below in

@@ -6,17 +6,17 @@ use Rattle.std.proofs.lemmas.List.Sums.{sum_by-cons}
 use Rattle.std.proofs.lemmas.Cmp.{nat_list_cmp_total}
 use Rattle.std.specs.Ordering.{is_eq}
 use Rattle.std.specs.BTreeMap.{is_at}
+use Rattle.std.proofs.lemmas.Bool.{and_from, and_parts}
 use Rattle.s3_rows.specs.declared.lists.NamedEntry.{NamedEntry}
 use Rattle.s3_rows.specs.Rows.{Name, Content}
 use Rattle.s3_rows.specs.Keyed.{has_key, row_at, sorted_by}
 use Rattle.s3_rows.specs.Tables.{Tables}
 use Rattle.s3_rows.specs.Selections.{name_at, bytes_cmp, bytes_of_name, with_entry_name, named_entries, by_entry_name}
 use Rattle.s3_rows.specs.Validity.{finds_of_entry, has_inode, is_directory, any_kind, have_one_name, differ}
-use Rattle.s3_rows.proofs.Passing.{both, first, second}
-use Rattle.s3_rows.proofs.Sorting.{any_found, negated, row_at-sorted, count-sorted}
+use Rattle.row_lemmas.proofs.Tests.{list_any_weaker, list_any-find, false_from_not}
+use Rattle.row_lemmas.proofs.Sums.{sum_by-map}
+use Rattle.row_lemmas.proofs.Keyed.Sorted.{row_at-sorted_by, count_by-sorted_by}
 use Rattle.tree_rows.specs.Shapes.{Directory, entries_in}
-use Rattle.s3_rows.proofs.Finding.{any_follows}
-use Rattle.tree_rows.proofs.Counting.{sum_by-map}
 use Rattle.tree_rows.proofs.Shaped.{lookup_made, entry_of_shape, names_in_shape}
 
 -- an entry of the directory with this name
@@ -40,7 +40,7 @@ with_name c None there = absurd (cc there)
 with_name c (Some n) there = refl
 
 name_there : (t : Tables) (c : Content) → IsTrue (finds_of_entry t c) → IsTrue (is_some (name_at t c.name_id))
-name_there t c finds = second (has_inode is_directory t c.parent) (is_some (name_at t c.name_id)) (first (has_inode is_directory t c.parent && is_some (name_at t c.name_id)) (has_inode any_kind t c.inode) finds)
+name_there t c finds = (and_parts (has_inode is_directory t c.parent) (is_some (name_at t c.name_id)) (and_parts (has_inode is_directory t c.parent && is_some (name_at t c.name_id)) (has_inode any_kind t c.inode) finds).0).1
 
 -- a choice between two options, through what is made of them
 pulled : {X Y : Type 0} (f : X → Y) (b : Bool) (x : X) (found : Option X) → cond b (Some (f x)) (option_map f found) ≡ option_map f (cond b (Some x) found)
@@ -51,14 +51,14 @@ pulled f false x found = refl
 listed : (t : Tables) (parent : ℕ) (cs : List Content) → IsTrue (list_all (finds_of_entry t) cs) → filter_map (with_entry_name t) (filter (is_in parent) cs) ≡ map (named t) (filter (is_in parent) cs)
 listed t parent [] finds = refl
 listed t parent (c ∷ cs) finds =
-    by_case (listed t parent cs (second (finds_of_entry t c) (list_all (finds_of_entry t) cs) finds)) (with_name c (name_at t c.name_id) (name_there t c (first (finds_of_entry t c) (list_all (finds_of_entry t) cs) finds))) (is_in parent c)
+    by_case (listed t parent cs (and_parts (finds_of_entry t c) (list_all (finds_of_entry t) cs) finds).1) (with_name c (name_at t c.name_id) (name_there t c (and_parts (finds_of_entry t c) (list_all (finds_of_entry t) cs) finds).0)) (is_in parent c)
   where
     by_case : filter_map (with_entry_name t) (filter (is_in parent) cs) ≡ map (named t) (filter (is_in parent) cs) → with_entry_name t c ≡ Some (named t c) → (b : Bool)
         → filter_map (with_entry_name t) (cond b (c ∷ filter (is_in parent) cs) (filter (is_in parent) cs)) ≡ map (named t) (cond b (c ∷ filter (is_in parent) cs) (filter (is_in parent) cs))
     by_case others own true = rw (own, filter_map) (ap (λ es. named t c ∷ es) others)
     by_case others own false = others
 
--- the first of them with a name
+-- the (and_parts of them with).0 a name
 found_listed : (t : Tables) (parent : ℕ) (name : List ℕ) (cs : List Content)
     → row_at by_entry_name name (map (named t) (filter (is_in parent) cs)) ≡ option_map (named t) (find (is_entry t parent name) cs)
 found_listed t parent name [] = refl
@@ -95,30 +95,30 @@ counted_listed t parent inode (c ∷ cs) = by_case (counted_listed t parent inod
 unlike_listed : (t : Tables) (parent : ℕ) (cs : List Content) → IsTrue (differ (have_one_name t) cs)
     → IsTrue (differ (λ a. has_key by_entry_name (by_entry_name.key a)) (map (named t) (filter (is_in parent) cs)))
 unlike_listed t parent [] unlike = refl
-unlike_listed t parent (c ∷ cs) unlike = by_case (unlike_listed t parent cs (second (not (list_any (have_one_name t c) cs)) (differ (have_one_name t) cs) unlike)) (is_in parent c) refl
+unlike_listed t parent (c ∷ cs) unlike = by_case (unlike_listed t parent cs (and_parts (not (list_any (have_one_name t c) cs)) (differ (have_one_name t) cs) unlike).1) (is_in parent c) refl
   where
     own : list_any (have_one_name t c) cs ≡ false
-    own = negated (list_any (have_one_name t c) cs) (first (not (list_any (have_one_name t c) cs)) (differ (have_one_name t) cs) unlike)
+    own = false_from_not (list_any (have_one_name t c) cs) (and_parts (not (list_any (have_one_name t c) cs)) (differ (have_one_name t) cs) unlike).0
 
     -- an entry of this directory with this name would be alike
     alike : is_in parent c ≡ true → (x : Content) → IsTrue (is_entry t parent (bytes_of_name t c.name_id) x) → IsTrue (have_one_name t c x)
     alike is x entry =
-        let there : x.parent ≡ parent = eqb-true x.parent parent (first (x.parent == parent) (is_eq (bytes_cmp (bytes_of_name t c.name_id) (bytes_of_name t x.name_id))) entry) in
+        let there : x.parent ≡ parent = eqb-true x.parent parent (and_parts (x.parent == parent) (is_eq (bytes_cmp (bytes_of_name t c.name_id) (bytes_of_name t x.name_id))) entry).0 in
         let here : c.parent ≡ parent = eqb-true c.parent parent is in
-        both (c.parent == x.parent) (is_eq (bytes_cmp (bytes_of_name t c.name_id) (bytes_of_name t x.name_id)))
+        and_from (c.parent == x.parent) (is_eq (bytes_cmp (bytes_of_name t c.name_id) (bytes_of_name t x.name_id)))
         (eq-eqb c.parent x.parent (here ∙ sym there))
-        (second (x.parent == parent) (is_eq (bytes_cmp (bytes_of_name t c.name_id) (bytes_of_name t x.name_id))) entry)
+        (and_parts (x.parent == parent) (is_eq (bytes_cmp (bytes_of_name t c.name_id) (bytes_of_name t x.name_id))) entry).1
 
     none : is_in parent c ≡ true → (b : Bool) → list_any (is_entry t parent (bytes_of_name t c.name_id)) cs ≡ b → IsTrue (not b)
     none is true any =
-        let clash : false ≡ true = sym own ∙ any_follows (is_entry t parent (bytes_of_name t c.name_id)) (have_one_name t c) (alike is) cs any in
+        let clash : false ≡ true = sym own ∙ list_any_weaker (is_entry t parent (bytes_of_name t c.name_id)) (have_one_name t c) (alike is) cs any in
         absurd (cc clash)
     none is false any = refl
 
     same_any : list_any (is_entry t parent (bytes_of_name t c.name_id)) cs ≡ list_any (has_key by_entry_name (bytes_of_name t c.name_id)) (map (named t) (filter (is_in parent) cs))
     same_any =
-        any_found (is_entry t parent (bytes_of_name t c.name_id)) cs ∙ is_some_map (find (is_entry t parent (bytes_of_name t c.name_id)) cs)
-        ∙ ap is_some (sym (found_listed t parent (bytes_of_name t c.name_id) cs)) ∙ sym (any_found (has_key by_entry_name (bytes_of_name t c.name_id)) (map (named t) (filter (is_in parent) cs)))
+        list_any-find (is_entry t parent (bytes_of_name t c.name_id)) cs ∙ is_some_map (find (is_entry t parent (bytes_of_name t c.name_id)) cs)
+        ∙ ap is_some (sym (found_listed t parent (bytes_of_name t c.name_id) cs)) ∙ sym (list_any-find (has_key by_entry_name (bytes_of_name t c.name_id)) (map (named t) (filter (is_in parent) cs)))
       where
         is_some_map : (found : Option Content) → is_some found ≡ is_some (option_map (named t) found)
         is_some_map None = refl
@@ -127,7 +127,7 @@ unlike_listed t parent (c ∷ cs) unlike = by_case (unlike_listed t parent cs (s
     by_case : IsTrue (differ (λ a. has_key by_entry_name (by_entry_name.key a)) (map (named t) (filter (is_in parent) cs))) → (b : Bool) → is_in parent c ≡ b
         → IsTrue (differ (λ a. has_key by_entry_name (by_entry_name.key a)) (map (named t) (cond b (c ∷ filter (is_in parent) cs) (filter (is_in parent) cs))))
     by_case others true is =
-        both (not (list_any (has_key by_entry_name (bytes_of_name t c.name_id)) (map (named t) (filter (is_in parent) cs)))) (differ (λ a. has_key by_entry_name (by_entry_name.key a)) (map (named t) (filter (is_in parent) cs)))
+        and_from (not (list_any (has_key by_entry_name (bytes_of_name t c.name_id)) (map (named t) (filter (is_in parent) cs)))) (differ (λ a. has_key by_entry_name (by_entry_name.key a)) (map (named t) (filter (is_in parent) cs)))
         (none is (list_any (has_key by_entry_name (bytes_of_name t c.name_id)) (map (named t) (filter (is_in parent) cs))) same_any) others
     by_case others false is = others
 
@@ -144,7 +144,7 @@ module _ (t : Tables) (finds : IsTrue (list_all (finds_of_entry t) t.contents)) 
       let rows : List NamedEntry = map (named t) (filter (is_in parent) t.contents) in
       lookup_made (λ (e : NamedEntry). e.name) inode_of (is_at (bytes_cmp name)) (named_entries t parent)
       ∙ ap (λ es. option_map inode_of (row_at by_entry_name name es)) (sorted_from parent)
-      ∙ ap (option_map inode_of) (row_at-sorted by_entry_name nat_list_cmp_total name rows ∙ found_listed t parent name t.contents)
+      ∙ ap (option_map inode_of) (row_at-sorted_by by_entry_name nat_list_cmp_total name rows ∙ found_listed t parent name t.contents)
       ∙ composed (find (is_entry t parent name) t.contents)
     where
       composed : (found : Option Content) → option_map (λ (e : NamedEntry). e.row.inode) (option_map (named t) found) ≡ option_map (λ c. c.inode) found
@@ -159,4 +159,4 @@ module _ (t : Tables) (finds : IsTrue (list_all (finds_of_entry t) t.contents)) 
       let counts : NamedEntry → Bool = λ e. e.row.inode == inode in
       let rows : List NamedEntry = map (named t) (filter (is_in parent) t.contents) in
       sum_by-map one pair_of (named_entries t parent) ∙ ap (λ es. count_by counts es) (sorted_from parent)
-      ∙ count-sorted by_entry_name nat_list_cmp_total counts rows (unlike_listed t parent t.contents unlike) ∙ counted_listed t parent inode t.contents
+      ∙ count_by-sorted_by by_entry_name nat_list_cmp_total counts rows (unlike_listed t parent t.contents unlike) ∙ counted_listed t parent inode t.contents

@@ -1,7 +1,6 @@
 -- What a new row of an inode that is there does to the tree that tables represent.
 use Rattle.std.proofs.Common.{◌≡◌, ℕ, List, [], ◌∷◌, Bool, true, false, cond, Option, None, Some, refl, sym, ap, ◌∙◌}
 use Rattle.std.specs.Prelude.{IsTrue, map, option_map}
-use Rattle.std.specs.List.{list_all}
 use Rattle.std.specs.Map.{set_value}
 use Rattle.std.specs.Cmp.{nat_cmp_total}
 use Rattle.std.specs.FinMap.{nat_cmp-IsAntisymmetric}
@@ -12,13 +11,12 @@ use Rattle.std.specs.BTreeMap.{is_at}
 use Rattle.plain_tree.specs.Tree.{Node, Tree, node_at, changed_by, change_node}
 use Rattle.s3_rows.specs.declared.change.Change.TheVariants as changes
 use Rattle.s3_rows.specs.Rows.{Inode}
-use Rattle.s3_rows.specs.Keyed.{is_past, rises, put, row_at}
+use Rattle.s3_rows.specs.Keyed.{rises, put, row_at}
 use Rattle.s3_rows.specs.Tables.{Tables, by_inode}
 use Rattle.s3_rows.specs.Batches.{after_change}
 use Rattle.s3_rows.specs.Selections.{inode_at}
-use Rattle.s3_rows.proofs.Passing.{first, second, all_pass}
-use Rattle.s3_rows.proofs.Placing.{past_both}
-use Rattle.s3_rows.proofs.Replacing.{none_before}
+use Rattle.row_lemmas.proofs.Keyed.Rises.{rises_head, rises_tail, list_all-is_past_trans}
+use Rattle.row_lemmas.proofs.Keyed.RowAt.{row_at_none_found}
 use Rattle.tree_rows.specs.Shapes.{NodeShape, TreeShape, shape_of_node, shape_of_tree, shape_of_tables, node_of_row, Represents}
 use Rattle.tree_rows.proofs.Shaped.{found_alike}
 
@@ -43,17 +41,14 @@ shaped-set test (e ∷ es) w = by_case (shaped-set test es w) (test e.0)
 put-set : (t : Tables) (new old : Inode) (rows : List Inode) → IsTrue (rises by_inode rows) → row_at by_inode new.id rows ≡ Some old
     → map (row_shape t) (put by_inode new rows) ≡ set_value (is_at (nat_cmp new.id)) (map (row_shape t) rows) (node_of_row t new)
 put-set t new old [] rise there = absurd (cc there)
-put-set t new old (x ∷ xs) rise there = by_case (put-set t new old xs (second (list_all (is_past by_inode x.id) xs) (rises by_inode xs) rise)) (nat_cmp new.id x.id) refl there
+put-set t new old (x ∷ xs) rise there = by_case (put-set t new old xs (rises_tail by_inode x xs rise)) (nat_cmp new.id x.id) refl there
   where
-    later : IsTrue (list_all (is_past by_inode x.id) xs)
-    later = first (list_all (is_past by_inode x.id) xs) (rises by_inode xs) rise
-
     by_case : (row_at by_inode new.id xs ≡ Some old → map (row_shape t) (put by_inode new xs) ≡ set_value (is_at (nat_cmp new.id)) (map (row_shape t) xs) (node_of_row t new))
         → (c : Ordering) → nat_cmp new.id x.id ≡ c → cond (is_eq c) (Some x) (row_at by_inode new.id xs) ≡ Some old
         → map (row_shape t) (elim c [ Less ↦ new ∷ x ∷ xs | Equal ↦ new ∷ xs | Greater ↦ x ∷ put by_inode new xs ])
         ≡ cond (is_eq c) ((x.id, node_of_row t new) ∷ map (row_shape t) xs) (row_shape t x ∷ set_value (is_at (nat_cmp new.id)) (map (row_shape t) xs) (node_of_row t new))
     by_case others Less is found =
-        none_before by_inode nat_cmp_total new.id xs old (all_pass (is_past by_inode x.id) (is_past by_inode new.id) (λ y. past_both by_inode nat_cmp_total new.id x.id y is) xs later) found
+        row_at_none_found by_inode new.id xs old (list_all-is_past_trans by_inode nat_cmp_total new.id x.id xs is (rises_head by_inode x xs rise)) found
     by_case others Equal is found = ap (λ id. (id, node_of_row t new) ∷ map (row_shape t) xs) (nat_cmp-IsAntisymmetric new.id x.id is)
     by_case others Greater is found = ap (λ es. row_shape t x ∷ es) (others found)
 

@@ -7,6 +7,7 @@ use Rattle.std.proofs.lemmas.Cmp.{nat_list_cmp_total}
 use Rattle.std.specs.Cmp.{tied_back, tied_itself}
 use Rattle.std.specs.FinMap.{slice_cmp-IsAntisymmetric, nat_cmp-IsAntisymmetric}
 use Rattle.std.specs.Ordering.{is_eq}
+use Rattle.std.proofs.lemmas.Bool.{and_from, and_parts}
 use Rattle.s3_base.specs.Names.{is_forbidden_name}
 use Rattle.plain_tree.specs.Tree as tree
 use Rattle.plain_tree.specs.Tree.{Node, Tree, node_at}
@@ -20,11 +21,9 @@ use Rattle.s3_rows.specs.Tables.{Tables, by_inode}
 use Rattle.s3_rows.specs.Selections.{inode_at, bytes_cmp, bytes_of_name}
 use Rattle.s3_rows.specs.Counts.{listed_inode_count}
 use Rattle.s3_rows.specs.Validity.{IsValid, finds_of_entry, has_inode, is_directory, any_kind, have_one_name, differ, has_legal_name, counts_inode, is_named_once, is_below_root, leads_to_root, parent_of, is_lost_and_found, lost_and_found, root}
-use Rattle.s3_rows.proofs.Passing.{both, first, second}
-use Rattle.s3_rows.proofs.Sorting.{negated, is_equal}
+use Rattle.row_lemmas.proofs.Tests.{find_passes, find_passes_all, list_any_from_find, find_from_list_any, list_all_from_list_any, false_from_not, equal_from_is_eq}
+use Rattle.row_lemmas.proofs.Sums.{count_by_none, list_any_from_count_by}
 use Rattle.tree_rows.specs.Shapes.{Represents}
-use Rattle.s3_rows.proofs.Finding.{found_passes, found_all, found_any, some_found}
-use Rattle.tree_rows.proofs.Counting.{count_none, none_passes}
 use Rattle.tree_rows.proofs.Listed.{is_entry}
 use Rattle.tree_rows.proofs.Whole.{folder_is, node_is, entry_found, entry_made, count_is, number_of}
 
@@ -33,7 +32,7 @@ found_one : {R : Type 0} (alike : R → R → Bool) (p q : R → Bool) (rows : L
     → ((x : R) → IsTrue (q x) → IsTrue (alike x c)) → IsTrue (q c) → find q rows ≡ Some c
 found_one alike p q [] c unlike found like passes = absurd (cc found)
 found_one alike p q (r ∷ rs) c unlike found like passes =
-    by_case (λ rest. found_one alike p q rs c (second (not (list_any (alike r) rs)) (differ alike rs) unlike) rest like passes) (p r) found (q r) refl
+    by_case (λ rest. found_one alike p q rs c (and_parts (not (list_any (alike r) rs)) (differ alike rs) unlike).1 rest like passes) (p r) found (q r) refl
   where
     by_case : (find p rs ≡ Some c → find q rs ≡ Some c) → (b : Bool) → cond b (Some r) (find p rs) ≡ Some c → (d : Bool) → q r ≡ d → cond d (Some r) (find q rs) ≡ Some c
     by_case others true there true is = there
@@ -42,17 +41,17 @@ found_one alike p q (r ∷ rs) c unlike found like passes =
         let clash : false ≡ true = sym is ∙ subst (λ x. IsTrue (q x)) (sym same) passes in
         absurd (cc clash)
     by_case others false there true is =
-        let clash : false ≡ true = sym (negated (list_any (alike r) rs) (first (not (list_any (alike r) rs)) (differ alike rs) unlike)) ∙ found_any p (alike r) rs c there (like r is) in
+        let clash : false ≡ true = sym (false_from_not (list_any (alike r) rs) (and_parts (not (list_any (alike r) rs)) (differ alike rs) unlike).0) ∙ list_any_from_find p (alike r) rs c there (like r is) in
         absurd (cc clash)
     by_case others false there false is = others there
 
 same_bytes : (a b : List ℕ) → IsTrue (is_eq (bytes_cmp a b)) → a ≡ b
-same_bytes a b is = slice_cmp-IsAntisymmetric nat_cmp-IsAntisymmetric a b (is_equal (bytes_cmp a b) is)
+same_bytes a b is = slice_cmp-IsAntisymmetric nat_cmp-IsAntisymmetric a b (equal_from_is_eq (bytes_cmp a b) is)
 
 -- ---- unnamed
 
 unnamed_in : (inode : ℕ) (content : tree.Content) → names_in inode content ≡ 0 → list_any (λ entry. entry.1 == inode) (entries_of content) ≡ false
-unnamed_in inode (tree.Directory entries) none = none_passes (λ (entry : List ℕ × ℕ). entry.1 == inode) entries none
+unnamed_in inode (tree.Directory entries) none = list_any_from_count_by (λ (entry : List ℕ × ℕ). entry.1 == inode) entries none
 unnamed_in inode (tree.Regular bytes) none = refl
 unnamed_in inode (tree.Link target) none = refl
 
@@ -63,14 +62,6 @@ unnamed inode (e ∷ es) none =
     let all : names_in inode e.1.content + sum_by one es ≡ 0 = sym (sum_by-cons one e es) ∙ none in
     ap (λ b. b || list_any (λ (x : ℕ × Node). list_any (λ (entry : List ℕ × ℕ). entry.1 == inode) (entries_of x.1.content)) es) (unnamed_in inode e.1.content (omega (arith, all)))
     ∙ unnamed inode es (omega (arith, all))
-
-none_all : {R : Type 0} (p : R → Bool) (rows : List R) → IsTrue (not (list_any p rows)) → IsTrue (list_all (λ r. not (p r)) rows)
-none_all p [] none = refl
-none_all p (r ∷ rs) none = by_case (none_all p rs) (p r) none
-  where
-    by_case : (IsTrue (not (list_any p rs)) → IsTrue (list_all (λ x. not (p x)) rs)) → (b : Bool) → IsTrue (not (b || list_any p rs)) → IsTrue (not b && list_all (λ x. not (p x)) rs)
-    by_case others true is = absurd (cc is)
-    by_case others false is = others is
 
 -- ---- the parts
 
@@ -87,13 +78,13 @@ module _ (t : Tables) (v : IsValid t) (whole : Tree) (same : Represents t whole)
   legal_name parent inode name is =
       let entry = entry_found t whole same v.rows.entries parent inode name is in
       let c : Content = entry.0 in
-      let legal : IsTrue (has_legal_name t c) = found_all (is_entry t parent name) (has_legal_name t) t.contents c v.tree.legal entry.1 in
-      let bytes : name ≡ bytes_of_name t c.name_id = same_bytes name (bytes_of_name t c.name_id) (second (c.parent == parent) _ (found_passes (is_entry t parent name) t.contents c entry.1)) in
+      let legal : IsTrue (has_legal_name t c) = find_passes_all (is_entry t parent name) (has_legal_name t) t.contents c v.tree.legal entry.1 in
+      let bytes : name ≡ bytes_of_name t c.name_id = same_bytes name (bytes_of_name t c.name_id) (and_parts (c.parent == parent) _ (find_passes (is_entry t parent name) t.contents c entry.1)).1 in
       ap name_check bytes
-      ∙ checked (bytes_of_name t c.name_id) (first (nat_le (length (bytes_of_name t c.name_id)) 255) _ legal) (second (nat_le (length (bytes_of_name t c.name_id)) 255) _ legal)
+      ∙ checked (bytes_of_name t c.name_id) (and_parts (nat_le (length (bytes_of_name t c.name_id)) 255) _ legal).0 (and_parts (nat_le (length (bytes_of_name t c.name_id)) 255) _ legal).1
     where
       checked : (text : List ℕ) → IsTrue (nat_le (length text) 255) → IsTrue (not (is_forbidden_name text)) → name_check text ≡ None
-      checked text short fine = by_case (nat_lt 255 (length text)) refl (is_forbidden_name text) (negated (is_forbidden_name text) fine)
+      checked text short fine = by_case (nat_lt 255 (length text)) refl (is_forbidden_name text) (false_from_not (is_forbidden_name text) fine)
         where
           by_case : (b : Bool) → nat_lt 255 (length text) ≡ b → (d : Bool) → d ≡ false → cond {A = Option ℕ} b (Some 36) (cond d (Some 22) None) ≡ None
           by_case true long d is = absurd (omega (arith, ltb-true 255 (length text) long, leb-true (length text) 255 short))
@@ -104,8 +95,8 @@ module _ (t : Tables) (v : IsValid t) (whole : Tree) (same : Represents t whole)
   entry_names_node parent inode name is =
       let entry = entry_found t whole same v.rows.entries parent inode name is in
       let c : Content = entry.0 in
-      let found : IsTrue (finds_of_entry t c) = found_all (is_entry t parent name) (finds_of_entry t) t.contents c v.rows.entries entry.1 in
-      subst (λ x. IsSome (node_at whole x)) entry.2 (node_is t whole same c.inode (second _ (has_inode any_kind t c.inode) found))
+      let found : IsTrue (finds_of_entry t c) = find_passes_all (is_entry t parent name) (finds_of_entry t) t.contents c v.rows.entries entry.1 in
+      subst (λ x. IsSome (node_at whole x)) entry.2 (node_is t whole same c.inode (and_parts _ (has_inode any_kind t c.inode) found).1)
 
   -- the entry of a row
   own_entry : (p : Content → Bool) (c : Content) → find p t.contents ≡ Some c → entry_at whole c.parent (bytes_of_name t c.name_id) ≡ Some c.inode
@@ -114,21 +105,21 @@ module _ (t : Tables) (v : IsValid t) (whole : Tree) (same : Represents t whole)
       (found_one (have_one_name t) p (is_entry t c.parent (bytes_of_name t c.name_id)) t.contents c v.tree.unlike found alike itself)
     where
       finds : IsTrue (finds_of_entry t c)
-      finds = found_all p (finds_of_entry t) t.contents c v.rows.entries found
+      finds = find_passes_all p (finds_of_entry t) t.contents c v.rows.entries found
 
       folder : IsTrue (has_inode is_directory t c.parent)
-      folder = first (has_inode is_directory t c.parent) _ (first _ (has_inode any_kind t c.inode) finds)
+      folder = (and_parts (has_inode is_directory t c.parent) _ (and_parts _ (has_inode any_kind t c.inode) finds).0).0
 
       text : List ℕ
       text = bytes_of_name t c.name_id
 
       alike : (x : Content) → IsTrue (is_entry t c.parent text x) → IsTrue (have_one_name t x c)
       alike x entry =
-          both (x.parent == c.parent) (is_eq (bytes_cmp (bytes_of_name t x.name_id) text)) (first (x.parent == c.parent) _ entry)
-          (ap is_eq (tied_back nat_list_cmp_total text (bytes_of_name t x.name_id) (is_equal (bytes_cmp text (bytes_of_name t x.name_id)) (second (x.parent == c.parent) _ entry))))
+          and_from (x.parent == c.parent) (is_eq (bytes_cmp (bytes_of_name t x.name_id) text)) (and_parts (x.parent == c.parent) _ entry).0
+          (ap is_eq (tied_back nat_list_cmp_total text (bytes_of_name t x.name_id) (equal_from_is_eq (bytes_cmp text (bytes_of_name t x.name_id)) (and_parts (x.parent == c.parent) _ entry).1)))
 
       itself : IsTrue (is_entry t c.parent text c)
-      itself = both (c.parent == c.parent) (is_eq (bytes_cmp text text)) (eq-eqb c.parent c.parent refl) (ap is_eq (tied_itself nat_list_cmp_total text))
+      itself = and_from (c.parent == c.parent) (is_eq (bytes_cmp text text)) (eq-eqb c.parent c.parent refl) (ap is_eq (tied_itself nat_list_cmp_total text))
 
   leads : (steps inode : ℕ) → IsTrue (leads_to_root steps t inode) → (n : ℕ) × LeadsToRoot whole n inode
   leads zero inode is = (0, eqb-true inode root is)
@@ -139,7 +130,7 @@ module _ (t : Tables) (v : IsValid t) (whole : Tree) (same : Represents t whole)
       by_row further None there up = absurd (cc up)
       by_row further (Some c) there up =
           let rest = further c.parent up in
-          let number : c.inode ≡ inode = eqb-true c.inode inode (found_passes (λ (r : Content). r.inode == inode) t.contents c there) in
+          let number : c.inode ≡ inode = eqb-true c.inode inode (find_passes (λ (r : Content). r.inode == inode) t.contents c there) in
           (suc rest.0, (c.parent, bytes_of_name t c.name_id, own_entry (λ (r : Content). r.inode == inode) c there ∙ ap Some number, rest.1))
 
       by_case : ((x : ℕ) → IsTrue (leads_to_root steps t x) → (n : ℕ) × LeadsToRoot whole n x) → (b : Bool) → (inode == root) ≡ b
@@ -151,20 +142,20 @@ module _ (t : Tables) (v : IsValid t) (whole : Tree) (same : Represents t whole)
   row_passes : (test : Inode → Bool) → IsTrue (list_all test t.inodes) → (inode : ℕ) → IsTrue (is_folder (node_at whole inode)) → (r : Inode) × (r.id ≡ inode) × IsTrue (is_directory r.kind) × IsTrue (test r)
   row_passes test all inode folder =
       let row = row_of t inode (sym (folder_is t whole same inode) ∙ folder) in
-      (row.0, sym (number_of t inode row.0 row.1), row.2, found_all (has_key by_inode inode) test t.inodes row.0 all row.1)
+      (row.0, sym (number_of t inode row.0 row.1), row.2, find_passes_all (has_key by_inode inode) test t.inodes row.0 all row.1)
 
   kept : IsTrue (is_folder (child_at whole root lost_and_found))
   kept =
-      let lost = some_found (is_lost_and_found t) t.contents v.tree.keeps_lost_and_found in
+      let lost = find_from_list_any (is_lost_and_found t) t.contents v.tree.keeps_lost_and_found in
       let c : Content = lost.0 in
       let text : List ℕ = bytes_of_name t c.name_id in
-      let passes : IsTrue (is_lost_and_found t c) = found_passes (is_lost_and_found t) t.contents c lost.1 in
-      let named : IsTrue (c.parent == root && is_eq (bytes_cmp text lost_and_found)) = first (c.parent == root && is_eq (bytes_cmp text lost_and_found)) (has_inode is_directory t c.inode) passes in
-      let parent : c.parent ≡ root = eqb-true c.parent root (first (c.parent == root) (is_eq (bytes_cmp text lost_and_found)) named) in
-      let bytes : text ≡ lost_and_found = same_bytes text lost_and_found (second (c.parent == root) (is_eq (bytes_cmp text lost_and_found)) named) in
+      let passes : IsTrue (is_lost_and_found t c) = find_passes (is_lost_and_found t) t.contents c lost.1 in
+      let named : IsTrue (c.parent == root && is_eq (bytes_cmp text lost_and_found)) = (and_parts (c.parent == root && is_eq (bytes_cmp text lost_and_found)) (has_inode is_directory t c.inode) passes).0 in
+      let parent : c.parent ≡ root = eqb-true c.parent root (and_parts (c.parent == root) (is_eq (bytes_cmp text lost_and_found)) named).0 in
+      let bytes : text ≡ lost_and_found = same_bytes text lost_and_found (and_parts (c.parent == root) (is_eq (bytes_cmp text lost_and_found)) named).1 in
       let entry : entry_at whole root lost_and_found ≡ Some c.inode = ap (λ p. entry_at whole p lost_and_found) (sym parent) ∙ ap (entry_at whole c.parent) (sym bytes) ∙ own_entry (is_lost_and_found t) c lost.1 in
       ap (λ found. is_folder (option_and_then (node_at whole) found)) entry ∙ folder_is t whole same c.inode
-      ∙ second (c.parent == root && is_eq (bytes_cmp text lost_and_found)) (has_inode is_directory t c.inode) passes
+      ∙ (and_parts (c.parent == root && is_eq (bytes_cmp text lost_and_found)) (has_inode is_directory t c.inode) passes).1
 
   once : (inode : ℕ) → IsTrue (is_folder (node_at whole inode)) → inode ≢ root → entries_naming whole inode ≡ 1
   once inode folder other =
@@ -197,7 +188,7 @@ module _ (t : Tables) (v : IsValid t) (whole : Tree) (same : Represents t whole)
   is_one_tree = record {
     is_rooted = folder_is t whole same root ∙ v.tree.is_rooted;
     root_is_unnamed =
-        unnamed root whole.nodes (count_is t v.rows.entries v.tree.unlike v.ordered.inodes whole same root ∙ count_none (λ (c : Content). c.inode == root) t.contents (none_all (λ (c : Content). c.inode == root) t.contents v.tree.root_is_unnamed));
+        unnamed root whole.nodes (count_is t v.rows.entries v.tree.unlike v.ordered.inodes whole same root ∙ count_by_none (λ (c : Content). c.inode == root) t.contents (list_all_from_list_any (λ (c : Content). c.inode == root) t.contents v.tree.root_is_unnamed));
     keeps_lost_and_found = kept;
     entries = entry_names_node;
     names = legal_name;
@@ -209,7 +200,7 @@ module _ (t : Tables) (v : IsValid t) (whole : Tree) (same : Represents t whole)
 
 pub stored_count : (t : Tables) (id : ℕ) (r : Inode) → IsValid t → inode_at t id ≡ Some r → r.refcount ≡ listed_inode_count t id
 stored_count t id r v is =
-    eqb-true r.refcount (listed_inode_count t r.id) (found_all (has_key by_inode id) (counts_inode t) t.inodes r v.counts.inodes is)
+    eqb-true r.refcount (listed_inode_count t r.id) (find_passes_all (has_key by_inode id) (counts_inode t) t.inodes r v.counts.inodes is)
     ∙ ap (listed_inode_count t) (sym (number_of t id r is))
 
 pub link_count_is : (t : Tables) (whole : Tree) (id : ℕ) (r : Inode) → IsValid t → Represents t whole → inode_at t id ≡ Some r → id ≢ root → r.refcount ≡ entries_naming whole id

@@ -14,8 +14,8 @@ use Rattle.plain_tree.specs.WellFormed.{entries_naming}
 use Rattle.s3_rows.specs.Rows.{Inode}
 use Rattle.s3_rows.specs.Tables.{Tables}
 use Rattle.s3_rows.specs.Selections.{inode_at}
+use Rattle.row_lemmas.proofs.Sums.{sum_by-map}
 use Rattle.tree_rows.specs.Shapes.{ContentShape, Regular, Directory, Link, NodeShape, TreeShape, shape_of_content, shape_of_node, node_of_row, Represents}
-use Rattle.tree_rows.proofs.Counting.{sum_by-map}
 
 -- ---- of shapes
 

@@ -1,12 +1,13 @@
 -- Valid tables have one tree of names, with exact counts.
-use Rattle.std.proofs.Common.{◌≡◌, ℕ, List, [], ◌∷◌, Bool, true, false, cond, Option, None, Some, refl, sym, ap, ◌∙◌, subst, arith, ltb-true, eqb-true, rules}
-use Rattle.std.specs.Prelude.{IsTrue, IsSome, not, ◌&&◌, ◌==◌, is_some, count_by, sum_by, find, option_map, option_and_then, nat_lt}
+use Rattle.std.proofs.Common.{◌≡◌, ℕ, List, [], ◌∷◌, Bool, true, false, cond, Option, None, Some, refl, sym, ap, ◌∙◌, subst, eqb-true, rules}
+use Rattle.std.specs.Prelude.{IsTrue, IsSome, not, ◌&&◌, ◌==◌, is_some, count_by, sum_by, find, option_map, option_and_then}
 use Rattle.std.specs.List.{list_all, AllByRecursion}
 use Rattle.std.specs.Cmp.{nat_cmp_total}
 use Rattle.std.specs.FinMap.{nat_cmp-IsAntisymmetric}
 use Rattle.std.specs.declared.cmp.Ordering.{Ordering}
 use Rattle.std.specs.declared.cmp.Ordering.TheVariants.{Less, Equal, Greater}
 use Rattle.std.specs.Ordering.{nat_cmp, is_eq}
+use Rattle.std.proofs.lemmas.Bool.{and_from, and_parts}
 use Rattle.s3_base.specs.declared.node_kind.Kind.{Kind}
 use Rattle.s3_base.specs.declared.node_kind.Kind.TheVariants as kinds
 use Rattle.plain_tree.specs.Tree.{Node, Tree, node_at}
@@ -17,11 +18,11 @@ use Rattle.s3_rows.specs.Keyed.{rises}
 use Rattle.s3_rows.specs.Tables.{Tables, by_inode}
 use Rattle.s3_rows.specs.Selections.{inode_at}
 use Rattle.s3_rows.specs.Validity.{finds_of_entry, has_inode, is_directory, any_kind, have_one_name, differ}
-use Rattle.s3_rows.proofs.Passing.{both, first, second, all_pass}
-use Rattle.s3_rows.proofs.Sorting.{negated}
+use Rattle.row_lemmas.proofs.Tests.{list_all_weaker, find_passes, false_from_not, is_eq-nat_cmp}
+use Rattle.row_lemmas.proofs.Sums.{sum_by_agree, sum_by_comm, count_by_none}
+use Rattle.row_lemmas.proofs.Keyed.RowAt.{row_at_own}
+use Rattle.row_lemmas.proofs.Keyed.Count.{count_by-has_key_there}
 use Rattle.tree_rows.specs.Shapes.{ContentShape, Regular, Directory, Link, NodeShape, shape_of_node, entries_in, target_in, node_of_row, Represents}
-use Rattle.s3_rows.proofs.Finding.{found_passes}
-use Rattle.tree_rows.proofs.Counting.{sum_same, sum_swap, count_none, self_found, one_found}
 use Rattle.tree_rows.proofs.Shaped.{entry_of_shape, names_in_shape, is_folder_content, is_folder_shape, found_alike, is_folder_there, entry_there, naming_there}
 use Rattle.tree_rows.proofs.Listed.{is_entry, names_inode, entry_in, names_in_directory}
 
@@ -31,7 +32,7 @@ content_of_kind t r kind = elim kind [ kinds.Directory ↦ Directory (entries_in
 
 -- the row of an inode has its number
 pub number_of : (t : Tables) (x : ℕ) (r : Inode) → inode_at t x ≡ Some r → x ≡ r.id
-number_of t x r is = by_case (nat_cmp x r.id) refl (found_passes (λ (y : Inode). is_eq (nat_cmp x y.id)) t.inodes r is)
+number_of t x r is = by_case (nat_cmp x r.id) refl (find_passes (λ (y : Inode). is_eq (nat_cmp x y.id)) t.inodes r is)
   where
     by_case : (c : Ordering) → nat_cmp x r.id ≡ c → IsTrue (is_eq c) → x ≡ r.id
     by_case Less same passes = absurd (cc passes)
@@ -107,36 +108,26 @@ module _ (t : Tables) (whole : Tree) (same : Represents t whole) (finds : IsTrue
 
 -- ---- counts
 
--- two tests of equal numbers
-same_test : (a b : ℕ) → is_eq (nat_cmp a b) ≡ (a == b)
-same_test a b = by_case (nat_lt a b) refl (a == b) refl
-  where
-    by_case : (c : Bool) → nat_lt a b ≡ c → (d : Bool) → (a == b) ≡ d → is_eq (cond c Less (cond d Equal Greater)) ≡ d
-    by_case true less true equal = absurd (omega (arith, ltb-true a b less, eqb-true a b equal))
-    by_case true less false equal = refl
-    by_case false less true equal = refl
-    by_case false less false equal = refl
-
 module _ (t : Tables) (finds : IsTrue (list_all (finds_of_entry t) t.contents)) (unlike : IsTrue (differ (have_one_name t) t.contents)) (rise : IsTrue (rises by_inode t.inodes)) where
   no_parent : (r : Inode) → inode_at t r.id ≡ Some r → IsTrue (not (is_directory r.kind)) → (inode : ℕ) (c : Content) → IsTrue (finds_of_entry t c) → IsTrue (not (names_inode r.id inode c))
   no_parent r there other inode c found = by_case (c.parent == r.id) refl
     where
       folder : IsTrue (has_inode is_directory t c.parent)
-      folder = first (has_inode is_directory t c.parent) _ (first _ (has_inode any_kind t c.inode) found)
+      folder = (and_parts (has_inode is_directory t c.parent) _ (and_parts _ (has_inode any_kind t c.inode) found).0).0
 
       by_case : (b : Bool) → (c.parent == r.id) ≡ b → IsTrue (not (b && (c.inode == inode)))
       by_case false is = refl
       by_case true is =
           let here : IsTrue (has_inode is_directory t r.id) = subst (λ p. IsTrue (has_inode is_directory t p)) (eqb-true c.parent r.id is) folder in
           let own : IsTrue (is_directory r.kind) = subst (λ (row : Option Inode). IsTrue (elim row [ Some x ↦ is_directory x.kind | None ↦ false ])) there here in
-          let clash : false ≡ true = sym (negated (is_directory r.kind) other) ∙ own in
+          let clash : false ≡ true = sym (false_from_not (is_directory r.kind) other) ∙ own in
           absurd (cc clash)
 
   names_of_row : (inode : ℕ) (r : Inode) → inode_at t r.id ≡ Some r → names_in_shape inode (node_of_row t r).content ≡ count_by (names_inode r.id inode) t.contents
   names_of_row inode r there = by_kind r.kind refl
     where
       none : IsTrue (not (is_directory r.kind)) → 0 ≡ count_by (names_inode r.id inode) t.contents
-      none other = sym (count_none (names_inode r.id inode) t.contents (all_pass (finds_of_entry t) (λ c. not (names_inode r.id inode c)) (no_parent r there other inode) t.contents finds))
+      none other = sym (count_by_none (names_inode r.id inode) t.contents (list_all_weaker (finds_of_entry t) (λ c. not (names_inode r.id inode c)) (no_parent r there other inode) t.contents finds))
 
       by_kind : (kind : Kind) → r.kind ≡ kind → names_in_shape inode (content_of_kind t r kind) ≡ count_by (names_inode r.id inode) t.contents
       by_kind kinds.Directory is = names_in_directory t finds unlike r.id inode
@@ -161,7 +152,7 @@ module _ (t : Tables) (finds : IsTrue (list_all (finds_of_entry t) t.contents)) 
       and_false false = refl
 
       folder : IsTrue (has_inode is_directory t c.parent)
-      folder = first (has_inode is_directory t c.parent) _ (first _ (has_inode any_kind t c.inode) found)
+      folder = (and_parts (has_inode is_directory t c.parent) _ (and_parts _ (has_inode any_kind t c.inode) found).0).0
 
       parent_there : (row : Option Inode) → IsTrue (elim row [ Some r ↦ is_directory r.kind | None ↦ false ]) → IsTrue (is_some row)
       parent_there None is = absurd (cc is)
@@ -169,7 +160,7 @@ module _ (t : Tables) (finds : IsTrue (list_all (finds_of_entry t) t.contents)) 
 
       none : (rows : List Inode) → IsTrue (list_all (λ (r : Inode). not ((c.parent == r.id) && false)) rows)
       none [] = refl
-      none (r ∷ rs) = both (not ((c.parent == r.id) && false)) _ (and_false (c.parent == r.id)) (none rs)
+      none (r ∷ rs) = and_from (not ((c.parent == r.id) && false)) _ (and_false (c.parent == r.id)) (none rs)
 
       below : Inode → Bool
       below r = (c.parent == r.id) && true
@@ -178,16 +169,16 @@ module _ (t : Tables) (finds : IsTrue (list_all (finds_of_entry t) t.contents)) 
       has r = is_eq (nat_cmp c.parent r.id)
 
       alike : below ≡ has
-      alike = λ i r. (and_true (c.parent == r.id) ∙ sym (same_test c.parent r.id)) i
+      alike = λ i r. (and_true (c.parent == r.id) ∙ sym (is_eq-nat_cmp c.parent r.id)) i
 
       by_case : (b : Bool) → count_by (λ (r : Inode). (c.parent == r.id) && b) t.inodes ≡ cond b 1 0
-      by_case true = ap (λ (p : Inode → Bool). count_by p t.inodes) alike ∙ one_found by_inode nat_cmp_total c.parent t.inodes rise (parent_there (inode_at t c.parent) folder)
-      by_case false = count_none (λ (r : Inode). (c.parent == r.id) && false) t.inodes (none t.inodes)
+      by_case true = ap (λ (p : Inode → Bool). count_by p t.inodes) alike ∙ count_by-has_key_there by_inode nat_cmp_total c.parent t.inodes rise (parent_there (inode_at t c.parent) folder)
+      by_case false = count_by_none (λ (r : Inode). (c.parent == r.id) && false) t.inodes (none t.inodes)
 
   each_entry : (inode : ℕ) (cs : List Content) → IsTrue (list_all (finds_of_entry t) cs)
       → AllByRecursion (λ c. sum_by (λ (r : Inode). cond (names_inode r.id inode c) 1 0) t.inodes ≡ cond (c.inode == inode) 1 0) cs
   each_entry inode [] found = tt
-  each_entry inode (c ∷ cs) found = (once inode c (first (finds_of_entry t c) (list_all (finds_of_entry t) cs) found), each_entry inode cs (second (finds_of_entry t c) (list_all (finds_of_entry t) cs) found))
+  each_entry inode (c ∷ cs) found = (once inode c (and_parts (finds_of_entry t c) (list_all (finds_of_entry t) cs) found).0, each_entry inode cs (and_parts (finds_of_entry t c) (list_all (finds_of_entry t) cs) found).1)
 
   pub count_is : (whole : Tree) → Represents t whole → (inode : ℕ) → entries_naming whole inode ≡ count_by (λ (c : Content). c.inode == inode) t.contents
   count_is whole same inode =
@@ -197,6 +188,6 @@ module _ (t : Tables) (finds : IsTrue (list_all (finds_of_entry t) t.contents)) 
       let in_all : Content → ℕ = λ c. sum_by (λ (r : Inode). cond (names_inode r.id inode c) 1 0) t.inodes in
       let own : Content → ℕ = λ c. cond (c.inode == inode) 1 0 in
       naming_there t whole same inode
-      ∙ sum_same of_row counted t.inodes (each_row inode t.inodes (self_found by_inode nat_cmp_total t.inodes rise))
-      ∙ sum_swap one t.inodes t.contents
-      ∙ sum_same in_all own t.contents (each_entry inode t.contents finds)
+      ∙ sum_by_agree of_row counted t.inodes (each_row inode t.inodes (row_at_own by_inode nat_cmp_total t.inodes rise))
+      ∙ sum_by_comm one t.inodes t.contents
+      ∙ sum_by_agree in_all own t.contents (each_entry inode t.contents finds)
