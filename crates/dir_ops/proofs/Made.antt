@@ -19,7 +19,8 @@ use Rattle.s3_rows.specs.Batches.{tables_after}
 use Rattle.s3_rows.specs.Selections.{inode_at, name_of_bytes}
 use Rattle.s3_rows.specs.Told.{Told, IfTold}
 use Rattle.s3_rows.specs.Validity.{IsValid, HasUniqueNames, is_directory}
-use Rattle.s3_rows.proofs.Sorting.{row_at-put}
+use Rattle.row_lemmas.proofs.Tests.{is_eq-nat_cmp}
+use Rattle.row_lemmas.proofs.Keyed.Put.{row_at-put}
 use Rattle.tree_rows.specs.Attrs.{attr_of_row}
 use Rattle.tree_rows.specs.Shapes.{Represents}
 use Rattle.tree_rows.proofs.Attributed.{attr_alike}
@@ -34,7 +35,6 @@ use Rattle.entry_rows.proofs.Allowed.{next_is, allowed}
 use Rattle.entry_rows.proofs.CreatedShape.{created_node}
 use Rattle.entry_rows.proofs.CreatedStep.{created_step}
 use Rattle.entry_rows.proofs.CreatedValid.{IsCreation, added_to, after_creation}
-use Rattle.entry_rows.proofs.Inserted.{same_test}
 use Rattle.entry_rows.proofs.NameUsed.{below_apart}
 use Rattle.dir_ops.specs.Places.{IsPlace, place_checks}
 
@@ -82,7 +82,7 @@ new_there : (t : Tables) (p : Parameters) (directory new : Inode) (more : Raised
 new_there t p directory new more name now is =
     let a : Addition t = added_to t p directory new more name is in
     let less : IsTrue (nat_lt directory.id new.id) = below t a directory.id (told_any (λ r. is_directory r.kind) (inode_at t directory.id) (folder_told t a)) in
-    let apart : is_eq (nat_cmp new.id directory.id) ≡ false = same_test new.id directory.id ∙ below_apart new.id directory.id less in
+    let apart : is_eq (nat_cmp new.id directory.id) ≡ false = is_eq-nat_cmp new.id directory.id ∙ below_apart new.id directory.id less in
     ap (λ u. inode_at u new.id) (after_creation t p directory new more name now is)
     ∙ row_at-put by_inode nat_cmp_total new.id (touched_row now directory) (put by_inode new t.inodes)
     ∙ ap (λ b. cond b (Some (touched_row now directory)) (row_at by_inode new.id (put by_inode new t.inodes))) apart

@@ -8,15 +8,15 @@ use Rattle.std.specs.FinMap.{nat_cmp-IsAntisymmetric}
 use Rattle.std.specs.declared.cmp.Ordering.{Ordering}
 use Rattle.std.specs.declared.cmp.Ordering.TheVariants.{Less, Equal, Greater}
 use Rattle.std.specs.Ordering.{nat_cmp, is_eq, ordering_then}
+use Rattle.std.proofs.lemmas.Bool.{and_parts}
 use Rattle.s3_rows.specs.Rows.{Name, Content}
 use Rattle.s3_rows.specs.Keyed.{has_key}
 use Rattle.s3_rows.specs.Tables.{Tables, by_name, by_entry}
 use Rattle.s3_rows.specs.Selections.{name_at, name_of_bytes, entry_at, bytes_cmp, bytes_of_name}
 use Rattle.s3_rows.specs.Told.{Told, IfTold}
 use Rattle.s3_rows.specs.Validity.{IsValid, HasUniqueNames, have_same_bytes, differ, finds_of_entry, has_inode, is_directory, any_kind}
-use Rattle.s3_rows.proofs.Passing.{first, second}
-use Rattle.s3_rows.proofs.Sorting.{is_equal, any_found, negated}
-use Rattle.s3_rows.proofs.Finding.{found_passes, found_any, any_follows, finds_itself}
+use Rattle.row_lemmas.proofs.Tests.{find_passes, list_any_from_find, list_any_weaker, equal_from_is_eq, list_any-find, false_from_not}
+use Rattle.row_lemmas.proofs.Keyed.RowAt.{row_at_from_find}
 use Rattle.ref_counts.proofs.Named.{has_bytes}
 use Rattle.ref_counts.proofs.Told.{IfTold-weaker, IfTold-weaker2, IfTold-same}
 use Rattle.tree_rows.proofs.Listed.{is_entry}
@@ -28,12 +28,12 @@ use Rattle.dir_ops.specs.Entries.{is_taken}
 any_same : {R : Type 0} (p q f : R → Bool) → ((x : R) → IsTrue (f x) → p x ≡ q x) → (rows : List R) → IsTrue (list_all f rows) → list_any p rows ≡ list_any q rows
 any_same p q f alike [] all = refl
 any_same p q f alike (x ∷ xs) all =
-    ap (λ b. b || list_any p xs) (alike x (first (f x) (list_all f xs) all)) ∙ ap (λ b. q x || b) (any_same p q f alike xs (second (f x) (list_all f xs) all))
+    ap (λ b. b || list_any p xs) (alike x (and_parts (f x) (list_all f xs) all).0) ∙ ap (λ b. q x || b) (any_same p q f alike xs (and_parts (f x) (list_all f xs) all).1)
 
 any_none : {R : Type 0} (p f : R → Bool) → ((x : R) → IsTrue (f x) → p x ≡ false) → (rows : List R) → IsTrue (list_all f rows) → list_any p rows ≡ false
 any_none p f none [] all = refl
 any_none p f none (x ∷ xs) all =
-    ap (λ b. b || list_any p xs) (none x (first (f x) (list_all f xs) all)) ∙ any_none p f none xs (second (f x) (list_all f xs) all)
+    ap (λ b. b || list_any p xs) (none x (and_parts (f x) (list_all f xs) all).0) ∙ any_none p f none xs (and_parts (f x) (list_all f xs) all).1
 
 -- two tests that follow from each other
 agree : (a b : Bool) → (IsTrue a → IsTrue b) → (IsTrue b → IsTrue a) → a ≡ b
@@ -66,13 +66,13 @@ module _ {R : Type 0} (alike : R → R → Bool) (q : R → Bool) (like : (x y :
   only_one : (p : R → Bool) (rows : List R) (n m : R) → IsTrue (differ alike rows) → find q rows ≡ Some n → find p rows ≡ Some m → IsTrue (q m) → n ≡ m
   only_one p [] n m unlike here there passes = absurd (cc here)
   only_one p (x ∷ xs) n m unlike here there passes =
-      by_case (λ a b. only_one p xs n m (second (not (list_any (alike x) xs)) (differ alike xs) unlike) a b passes) (q x) refl here (p x) there
+      by_case (λ a b. only_one p xs n m (and_parts (not (list_any (alike x) xs)) (differ alike xs) unlike).1 a b passes) (q x) refl here (p x) there
     where
       by_case : (find q xs ≡ Some n → find p xs ≡ Some m → n ≡ m) → (b : Bool) → q x ≡ b → cond b (Some x) (find q xs) ≡ Some n → (c : Bool) → cond c (Some x) (find p xs) ≡ Some m → n ≡ m
       by_case others true own found true other = cc (found, other)
       by_case others true own found false other =
-          let any : IsTrue (list_any (alike x) xs) = any_follows q (alike x) (λ y. like x y own) xs (found_any p q xs m other passes) in
-          let clash : true ≡ false = sym any ∙ negated (list_any (alike x) xs) (first (not (list_any (alike x) xs)) (differ alike xs) unlike) in
+          let any : IsTrue (list_any (alike x) xs) = list_any_weaker q (alike x) (λ y. like x y own) xs (list_any_from_find p q xs m other passes) in
+          let clash : true ≡ false = sym any ∙ false_from_not (list_any (alike x) xs) (and_parts (not (list_any (alike x) xs)) (differ alike xs) unlike).0 in
           absurd (cc clash)
       by_case others false own found true other =
           let same : x ≡ m = cc other in
@@ -84,13 +84,13 @@ module _ {R : Type 0} (alike : R → R → Bool) (q : R → Bool) (like : (x y :
 
 like : (bytes : List ℕ) (x y : Name) → IsTrue (has_bytes bytes x) → IsTrue (has_bytes bytes y) → IsTrue (have_same_bytes x y)
 like bytes x y one two =
-    ap is_eq (nat_list_cmp_total.congr x.name bytes y.name (is_equal (bytes_cmp x.name bytes) one) ∙ tied_back nat_list_cmp_total y.name bytes (is_equal (bytes_cmp y.name bytes) two))
+    ap is_eq (nat_list_cmp_total.congr x.name bytes y.name (equal_from_is_eq (bytes_cmp x.name bytes) one) ∙ tied_back nat_list_cmp_total y.name bytes (equal_from_is_eq (bytes_cmp y.name bytes) two))
 
 turned : (a b : List ℕ) → IsTrue (is_eq (bytes_cmp a b)) → IsTrue (is_eq (bytes_cmp b a))
-turned a b same = ap is_eq (tied_back nat_list_cmp_total a b (is_equal (bytes_cmp a b) same))
+turned a b same = ap is_eq (tied_back nat_list_cmp_total a b (equal_from_is_eq (bytes_cmp a b) same))
 
 name_there : (t : Tables) (c : Content) → IsTrue (finds_of_entry t c) → IsTrue (is_some (name_at t c.name_id))
-name_there t c finds = second (has_inode is_directory t c.parent) (is_some (name_at t c.name_id)) (first (has_inode is_directory t c.parent && is_some (name_at t c.name_id)) (has_inode any_kind t c.inode) finds)
+name_there t c finds = (and_parts (has_inode is_directory t c.parent) (is_some (name_at t c.name_id)) (and_parts (has_inode is_directory t c.parent && is_some (name_at t c.name_id)) (has_inode any_kind t c.inode) finds).0).1
 
 -- an entry has a name of given bytes where its name's row does
 named_so : (t : Tables) (bytes : List ℕ) (c : Content) (found : Option Name) → name_at t c.name_id ≡ found → IsTrue (is_some found)
@@ -107,23 +107,23 @@ module _ (t : Tables) (v : IsValid t) (unique : HasUniqueNames t) (bytes : List 
     where
       there : IsTrue (is_eq (nat_cmp n.id c.name_id)) → IsTrue (is_eq (bytes_cmp bytes (bytes_of_name t c.name_id)))
       there same =
-          let number : n.id ≡ c.name_id = nat_cmp-IsAntisymmetric n.id c.name_id (is_equal (nat_cmp n.id c.name_id) same) in
-          let row : name_at t c.name_id ≡ Some n = ap (name_at t) (sym number) ∙ finds_itself by_name nat_cmp_total (has_bytes bytes) t.names n v.ordered.names here in
+          let number : n.id ≡ c.name_id = nat_cmp-IsAntisymmetric n.id c.name_id (equal_from_is_eq (nat_cmp n.id c.name_id) same) in
+          let row : name_at t c.name_id ≡ Some n = ap (name_at t) (sym number) ∙ row_at_from_find by_name nat_cmp_total (has_bytes bytes) t.names n v.ordered.names here in
           let own : bytes_of_name t c.name_id ≡ n.name = ap (λ (found : Option Name). unwrap_or (option_map (λ r. r.name) found) []) row in
-          subst (λ xs. IsTrue (is_eq (bytes_cmp bytes xs))) (sym own) (turned n.name bytes (found_passes (has_bytes bytes) t.names n here))
+          subst (λ xs. IsTrue (is_eq (bytes_cmp bytes xs))) (sym own) (turned n.name bytes (find_passes (has_bytes bytes) t.names n here))
 
       back : IsTrue (is_eq (bytes_cmp bytes (bytes_of_name t c.name_id))) → IsTrue (is_eq (nat_cmp n.id c.name_id))
       back same =
           let row = named_so t bytes c (name_at t c.name_id) refl (name_there t c finds) same in
           let one : n ≡ row.0 = only_one have_same_bytes (has_bytes bytes) (like bytes) (has_key by_name c.name_id) t.names n row.0 unique here row.1 row.2 in
-          let number : IsTrue (is_eq (nat_cmp c.name_id (row.0).id)) = found_passes (has_key by_name c.name_id) t.names row.0 row.1 in
-          let equal : c.name_id ≡ n.id = nat_cmp-IsAntisymmetric c.name_id (row.0).id (is_equal (nat_cmp c.name_id (row.0).id) number) ∙ ap (λ (x : Name). x.id) (sym one) in
+          let number : IsTrue (is_eq (nat_cmp c.name_id (row.0).id)) = find_passes (has_key by_name c.name_id) t.names row.0 row.1 in
+          let equal : c.name_id ≡ n.id = nat_cmp-IsAntisymmetric c.name_id (row.0).id (equal_from_is_eq (nat_cmp c.name_id (row.0).id) number) ∙ ap (λ (x : Name). x.id) (sym one) in
           subst (λ x. IsTrue (is_eq (nat_cmp n.id x))) (sym equal) (ap is_eq (tied_itself nat_cmp_total n.id))
 
   -- where the name has a row
   pub taken_by_id : (parent id : ℕ) (n : Name) → name_of_bytes t bytes ≡ Some n → id ≡ n.id → is_some (entry_at t parent id) ≡ is_taken t parent bytes
   taken_by_id parent id n here same =
-      ap (λ x. is_some (entry_at t parent x)) same ∙ sym (any_found (has_key by_entry (parent, n.id)) t.contents)
+      ap (λ x. is_some (entry_at t parent x)) same ∙ sym (list_any-find (has_key by_entry (parent, n.id)) t.contents)
       ∙ any_same (has_key by_entry (parent, n.id)) (is_entry t parent bytes) (finds_of_entry t) each t.contents v.rows.entries
     where
       each : (c : Content) → IsTrue (finds_of_entry t c) → has_key by_entry (parent, n.id) c ≡ is_entry t parent bytes c
@@ -145,8 +145,8 @@ module _ (t : Tables) (v : IsValid t) (unique : HasUniqueNames t) (bytes : List 
           by_case : (b : Bool) → is_eq (bytes_cmp bytes (bytes_of_name t c.name_id)) ≡ b → b ≡ false
           by_case true same =
               let row = named_so t bytes c (name_at t c.name_id) refl (name_there t c finds) same in
-              let any : IsTrue (list_any (has_bytes bytes) t.names) = found_any (has_key by_name c.name_id) (has_bytes bytes) t.names row.0 row.1 row.2 in
-              let clash : true ≡ false = sym any ∙ any_found (has_bytes bytes) t.names ∙ ap is_some none in
+              let any : IsTrue (list_any (has_bytes bytes) t.names) = list_any_from_find (has_key by_name c.name_id) (has_bytes bytes) t.names row.0 row.1 row.2 in
+              let clash : true ≡ false = sym any ∙ list_any-find (has_bytes bytes) t.names ∙ ap is_some none in
               absurd (cc clash)
           by_case false same = refl
 

@@ -9,6 +9,7 @@ use Rattle.std.proofs.lemmas.Cmp.{nat_list_cmp_total}
 use Rattle.std.specs.declared.cmp.Ordering.{Ordering}
 use Rattle.std.specs.declared.cmp.Ordering.TheVariants.{Less, Equal, Greater}
 use Rattle.std.specs.Ordering.{nat_cmp, is_eq, ordering_then}
+use Rattle.std.proofs.lemmas.Bool.{and_from, and_parts}
 use Rattle.s3_base.specs.Names.{is_forbidden_name}
 use Rattle.s3_base.specs.declared.node_kind.Kind.TheVariants as kinds
 use Rattle.s3_rows.specs.Rows.{Inode, Name, Content, Parameters}
@@ -17,15 +18,13 @@ use Rattle.s3_rows.specs.Tables.{Tables, by_inode, by_entry}
 use Rattle.s3_rows.specs.Selections.{inode_at, name_at, block_at, entry_at, target_at, bytes_cmp, bytes_of_name}
 use Rattle.s3_rows.specs.Counts.{listed_inode_count, listed_name_count}
 use Rattle.s3_rows.specs.Validity.{IsValid, HasItsRows, HasExactCounts, root, is_directory, is_regular, is_link, any_kind, has_inode, counts_inode, counts_name, finds_of_entry, finds_of_inode_block, finds_of_attr, finds_target}
-use Rattle.s3_rows.proofs.Passing.{both, first, second, all_pass}
-use Rattle.s3_rows.proofs.Sorting.{is_equal, row_at-put, count-put}
-use Rattle.s3_rows.proofs.Finding.{found_all}
-use Rattle.s3_rows.proofs.Batched.{pair_cmp_total}
-use Rattle.s3_rows.proofs.Replacing.{all_put}
-use Rattle.tree_rows.proofs.Counting.{count_none}
+use Rattle.row_lemmas.proofs.Tests.{list_all_weaker, find_passes_all, equal_from_is_eq, is_eq-nat_cmp, list_all_weaker_both, list_all_from_list_any, is_some-find_none}
+use Rattle.row_lemmas.proofs.Sums.{count_by_none}
+use Rattle.row_lemmas.proofs.Keyed.Put.{row_at-put, list_all-put}
+use Rattle.row_lemmas.proofs.Keyed.Count.{count_by-put_new}
+use Rattle.row_lemmas.proofs.Tables.{pair_cmp_total}
 use Rattle.tree_rows.proofs.Listed.{is_entry}
 use Rattle.tree_rows.proofs.Whole.{number_of}
-use Rattle.entry_rows.proofs.Inserted.{same_test, all_two, all_of_none, missing_of_all}
 use Rattle.entry_rows.proofs.NameUsed.{bytes_of_row, counts_after, NameIsUsed, below_apart}
 
 -- the new inode, the entry that names it, and the names with one more use
@@ -90,7 +89,7 @@ pair_parts x y is = by_case (nat_cmp x.0 y.0) refl is
   where
     by_case : (c : Ordering) → nat_cmp x.0 y.0 ≡ c → IsTrue (is_eq (ordering_then c (nat_cmp x.1 y.1))) → (x.0 ≡ y.0) × (x.1 ≡ y.1)
     by_case Less one two = absurd (cc two)
-    by_case Equal one two = (nat_cmp-IsAntisymmetric x.0 y.0 one, nat_cmp-IsAntisymmetric x.1 y.1 (is_equal (nat_cmp x.1 y.1) two))
+    by_case Equal one two = (nat_cmp-IsAntisymmetric x.0 y.0 one, nat_cmp-IsAntisymmetric x.1 y.1 (equal_from_is_eq (nat_cmp x.1 y.1) two))
     by_case Greater one two = absurd (cc two)
 
 -- what is told of a row, if there is one
@@ -118,10 +117,10 @@ module _ (t : Tables) (a : Addition t) where
       by_case : (found : Option Inode) → inode_at t x ≡ found → IsTrue (told (λ r. any_kind r.kind) found) → IsTrue (nat_lt x a.new.id)
       by_case None is passes = absurd (cc passes)
       by_case (Some r) is passes =
-          subst (λ n. IsTrue (nat_lt n a.new.id)) (sym (number_of t x r is)) (found_all (has_key by_inode x) (λ (y : Inode). nat_lt y.id a.new.id) t.inodes r numbers_below is)
+          subst (λ n. IsTrue (nat_lt n a.new.id)) (sym (number_of t x r is)) (find_passes_all (has_key by_inode x) (λ (y : Inode). nat_lt y.id a.new.id) t.inodes r numbers_below is)
 
   pub same_inode : (x : ℕ) → IsTrue (nat_lt x a.new.id) → inode_at (added t a) x ≡ inode_at t x
-  same_inode x less = row_at-put by_inode nat_cmp_total x a.new t.inodes ∙ ap (λ b. cond b (Some a.new) (inode_at t x)) (same_test x a.new.id ∙ apart_below x a.new.id less)
+  same_inode x less = row_at-put by_inode nat_cmp_total x a.new t.inodes ∙ ap (λ b. cond b (Some a.new) (inode_at t x)) (is_eq-nat_cmp x a.new.id ∙ apart_below x a.new.id less)
 
   pub new_at : inode_at (added t a) a.new.id ≡ Some a.new
   new_at = row_at-put by_inode nat_cmp_total a.new.id a.new t.inodes ∙ ap (λ c. cond (is_eq c) (Some a.new) (inode_at t a.new.id)) (tied_itself nat_cmp_total a.new.id)
@@ -137,8 +136,8 @@ module _ (t : Tables) (a : Addition t) where
 
   pub absent_inode : is_some (inode_at t a.new.id) ≡ false
   absent_inode =
-      missing_of_all (has_key by_inode a.new.id) t.inodes
-      (all_pass (λ (r : Inode). nat_lt r.id a.new.id) (λ r. not (has_key by_inode a.new.id r)) (λ r less. ap not (same_test a.new.id r.id ∙ below_apart a.new.id r.id less)) t.inodes numbers_below)
+      is_some-find_none (has_key by_inode a.new.id) t.inodes
+      (list_all_weaker (λ (r : Inode). nat_lt r.id a.new.id) (λ r. not (has_key by_inode a.new.id r)) (λ r less. ap not (is_eq-nat_cmp a.new.id r.id ∙ below_apart a.new.id r.id less)) t.inodes numbers_below)
 
   -- ---- names
 
@@ -152,18 +151,18 @@ module _ (t : Tables) (a : Addition t) where
   bytes_new = ap (λ (found : Option (List ℕ)). unwrap_or found []) a.used.own
 
   pub has_name : (c : Content) → IsTrue (finds_of_entry t c) → IsTrue (is_some (name_at t c.name_id))
-  has_name c finds = second (has_inode is_directory t c.parent) (is_some (name_at t c.name_id)) (first (has_inode is_directory t c.parent && is_some (name_at t c.name_id)) (has_inode any_kind t c.inode) finds)
+  has_name c finds = (and_parts (has_inode is_directory t c.parent) (is_some (name_at t c.name_id)) (and_parts (has_inode is_directory t c.parent && is_some (name_at t c.name_id)) (has_inode any_kind t c.inode) finds).0).1
 
   pub has_parent : (c : Content) → IsTrue (finds_of_entry t c) → IsTrue (has_inode is_directory t c.parent)
-  has_parent c finds = first (has_inode is_directory t c.parent) (is_some (name_at t c.name_id)) (first (has_inode is_directory t c.parent && is_some (name_at t c.name_id)) (has_inode any_kind t c.inode) finds)
+  has_parent c finds = (and_parts (has_inode is_directory t c.parent) (is_some (name_at t c.name_id)) (and_parts (has_inode is_directory t c.parent && is_some (name_at t c.name_id)) (has_inode any_kind t c.inode) finds).0).0
 
   pub has_child : (c : Content) → IsTrue (finds_of_entry t c) → IsTrue (has_inode any_kind t c.inode)
-  has_child c finds = second (has_inode is_directory t c.parent && is_some (name_at t c.name_id)) (has_inode any_kind t c.inode) finds
+  has_child c finds = (and_parts (has_inode is_directory t c.parent && is_some (name_at t c.name_id)) (has_inode any_kind t c.inode) finds).1
 
   -- ---- entries
 
   no_entries : IsTrue (list_all (λ c. not (is_entry t a.directory.id a.name c)) t.contents)
-  no_entries = all_of_none (is_entry t a.directory.id a.name) t.contents (ap not a.free)
+  no_entries = list_all_from_list_any (is_entry t a.directory.id a.name) t.contents (ap not a.free)
 
   -- no entry of the directory has the name, so none has the key
   other_key : (c : Content) → IsTrue (finds_of_entry t c) → IsTrue (not (is_entry t a.directory.id a.name c)) → IsTrue (not (has_key by_entry (a.directory.id, a.id) c))
@@ -174,7 +173,7 @@ module _ (t : Tables) (a : Addition t) where
           let parts = pair_parts (a.directory.id, a.id) (c.parent, c.name_id) is in
           let text : a.name ≡ bytes_of_name t c.name_id = sym bytes_new ∙ ap (bytes_of_name (added t a)) parts.1 ∙ bytes_kept c.name_id (has_name c finds) in
           let entry : IsTrue (is_entry t a.directory.id a.name c) =
-          both (c.parent == a.directory.id) (is_eq (bytes_cmp a.name (bytes_of_name t c.name_id))) (eq-eqb c.parent a.directory.id (sym parts.0))
+          and_from (c.parent == a.directory.id) (is_eq (bytes_cmp a.name (bytes_of_name t c.name_id))) (eq-eqb c.parent a.directory.id (sym parts.0))
           (ap (λ b. is_eq (bytes_cmp a.name b)) (sym text) ∙ ap is_eq (tied_itself nat_list_cmp_total a.name)) in
           let clash : false ≡ true = sym (ap not entry) ∙ other in
           absurd (cc clash)
@@ -182,39 +181,39 @@ module _ (t : Tables) (a : Addition t) where
 
   pub absent_entry : is_some (entry_at t a.directory.id a.id) ≡ false
   absent_entry =
-      missing_of_all (has_key by_entry (a.directory.id, a.id)) t.contents
-      (all_two (finds_of_entry t) (λ c. not (is_entry t a.directory.id a.name c)) (λ c. not (has_key by_entry (a.directory.id, a.id) c)) other_key t.contents a.valid.rows.entries no_entries)
+      is_some-find_none (has_key by_entry (a.directory.id, a.id)) t.contents
+      (list_all_weaker_both (finds_of_entry t) (λ c. not (is_entry t a.directory.id a.name c)) (λ c. not (has_key by_entry (a.directory.id, a.id) c)) other_key t.contents a.valid.rows.entries no_entries)
 
   -- ---- what rows find
 
   entry_kept : (c : Content) → IsTrue (finds_of_entry t c) → IsTrue (finds_of_entry (added t a) c)
   entry_kept c finds =
-      both (has_inode is_directory (added t a) c.parent && is_some (name_at (added t a) c.name_id)) (has_inode any_kind (added t a) c.inode)
-      (both (has_inode is_directory (added t a) c.parent) (is_some (name_at (added t a) c.name_id)) (told_kept (λ r. is_directory r.kind) c.parent (has_parent c finds)) (name_kept c.name_id (has_name c finds)))
+      and_from (has_inode is_directory (added t a) c.parent && is_some (name_at (added t a) c.name_id)) (has_inode any_kind (added t a) c.inode)
+      (and_from (has_inode is_directory (added t a) c.parent) (is_some (name_at (added t a) c.name_id)) (told_kept (λ r. is_directory r.kind) c.parent (has_parent c finds)) (name_kept c.name_id (has_name c finds)))
       (told_kept (λ r. any_kind r.kind) c.inode (has_child c finds))
 
   entry_new : IsTrue (finds_of_entry (added t a) (entry_of t a))
   entry_new =
-      both (has_inode is_directory (added t a) a.directory.id && is_some (name_at (added t a) a.id)) (has_inode any_kind (added t a) a.new.id)
-      (both (has_inode is_directory (added t a) a.directory.id) (is_some (name_at (added t a) a.id)) (told_kept (λ r. is_directory r.kind) a.directory.id folder_told)
+      and_from (has_inode is_directory (added t a) a.directory.id && is_some (name_at (added t a) a.id)) (has_inode any_kind (added t a) a.new.id)
+      (and_from (has_inode is_directory (added t a) a.directory.id) (is_some (name_at (added t a) a.id)) (told_kept (λ r. is_directory r.kind) a.directory.id folder_told)
       (sym (is_some_map bytes_of_row (name_at (added t a) a.id)) ∙ ap is_some a.used.own))
       (ap (told (λ r. any_kind r.kind)) new_at)
 
   pub rows_added : HasItsRows (added t a)
   rows_added = record {
-    entries = all_put by_entry (finds_of_entry (added t a)) (entry_of t a) t.contents entry_new (all_pass (finds_of_entry t) (finds_of_entry (added t a)) entry_kept t.contents a.valid.rows.entries);
+    entries = list_all-put by_entry (finds_of_entry (added t a)) (entry_of t a) t.contents entry_new (list_all_weaker (finds_of_entry t) (finds_of_entry (added t a)) entry_kept t.contents a.valid.rows.entries);
     inode_blocks =
-        all_pass (finds_of_inode_block t) (finds_of_inode_block (added t a))
-        (λ y own. both (has_inode is_regular (added t a) y.inode) (is_some (block_at t y.block)) (told_kept (λ r. is_regular r.kind) y.inode (first (has_inode is_regular t y.inode) (is_some (block_at t y.block)) own)) (second (has_inode is_regular t y.inode) (is_some (block_at t y.block)) own))
+        list_all_weaker (finds_of_inode_block t) (finds_of_inode_block (added t a))
+        (λ y own. and_from (has_inode is_regular (added t a) y.inode) (is_some (block_at t y.block)) (told_kept (λ r. is_regular r.kind) y.inode (and_parts (has_inode is_regular t y.inode) (is_some (block_at t y.block)) own).0) (and_parts (has_inode is_regular t y.inode) (is_some (block_at t y.block)) own).1)
         t.inode_blocks a.valid.rows.inode_blocks;
     objects = a.valid.rows.objects;
-    targets = all_pass (λ y. has_inode is_link t y.inode) (λ y. has_inode is_link (added t a) y.inode) (λ y own. told_kept (λ r. is_link r.kind) y.inode own) t.targets a.valid.rows.targets;
-    links = all_put by_inode (finds_target t) a.new t.inodes (ap (λ k. not (is_link k) || is_some (target_at t a.new.id)) a.regular) a.valid.rows.links;
+    targets = list_all_weaker (λ y. has_inode is_link t y.inode) (λ y. has_inode is_link (added t a) y.inode) (λ y own. told_kept (λ r. is_link r.kind) y.inode own) t.targets a.valid.rows.targets;
+    links = list_all-put by_inode (finds_target t) a.new t.inodes (ap (λ k. not (is_link k) || is_some (target_at t a.new.id)) a.regular) a.valid.rows.links;
     attrs =
-        all_pass (finds_of_attr t) (finds_of_attr (added t a))
-        (λ y own. both (has_inode any_kind (added t a) y.inode) (is_some (name_at (added t a) y.name_id)) (told_kept (λ r. any_kind r.kind) y.inode (first (has_inode any_kind t y.inode) (is_some (name_at t y.name_id)) own)) (name_kept y.name_id (second (has_inode any_kind t y.inode) (is_some (name_at t y.name_id)) own)))
+        list_all_weaker (finds_of_attr t) (finds_of_attr (added t a))
+        (λ y own. and_from (has_inode any_kind (added t a) y.inode) (is_some (name_at (added t a) y.name_id)) (told_kept (λ r. any_kind r.kind) y.inode (and_parts (has_inode any_kind t y.inode) (is_some (name_at t y.name_id)) own).0) (name_kept y.name_id (and_parts (has_inode any_kind t y.inode) (is_some (name_at t y.name_id)) own).1))
         t.attrs a.valid.rows.attrs;
-    slots = all_pass (λ y. has_inode is_regular t y.inode) (λ y. has_inode is_regular (added t a) y.inode) (λ y own. told_kept (λ r. is_regular r.kind) y.inode own) t.slots a.valid.rows.slots;
+    slots = list_all_weaker (λ y. has_inode is_regular t y.inode) (λ y. has_inode is_regular (added t a) y.inode) (λ y own. told_kept (λ r. is_regular r.kind) y.inode own) t.slots a.valid.rows.slots;
   }
 
   -- ---- counts
@@ -222,7 +221,7 @@ module _ (t : Tables) (a : Addition t) where
   pub count_added : (f : Content → Bool) → count_by f (put by_entry (entry_of t a) t.contents) ≡ cond (f (entry_of t a)) 1 0 + count_by f t.contents
   count_added f =
       let one : Content → ℕ = λ c. cond (f c) 1 0 in
-      count-put by_entry pair_cmp_total f (entry_of t a) t.contents absent_entry ∙ sum_by-cons one (entry_of t a) t.contents
+      count_by-put_new by_entry f (entry_of t a) t.contents absent_entry ∙ sum_by-cons one (entry_of t a) t.contents
 
   pub listed_other : (x : ℕ) → IsTrue (nat_lt x a.new.id) → listed_inode_count (added t a) x ≡ listed_inode_count t x
   listed_other x less =
@@ -235,8 +234,8 @@ module _ (t : Tables) (a : Addition t) where
   listed_new =
       let one : cond {A = ℕ} (a.new.id == a.new.id) 1 0 ≡ 1 = ap (λ b. cond {A = ℕ} b 1 0) (eq-eqb a.new.id a.new.id refl) in
       let none : count_by (λ (c : Content). c.inode == a.new.id) t.contents ≡ 0 =
-      count_none (λ (c : Content). c.inode == a.new.id) t.contents
-      (all_pass (finds_of_entry t) (λ c. not (c.inode == a.new.id)) (λ c finds. ap not (apart_below c.inode a.new.id (below c.inode (has_child c finds)))) t.contents a.valid.rows.entries) in
+      count_by_none (λ (c : Content). c.inode == a.new.id) t.contents
+      (list_all_weaker (finds_of_entry t) (λ c. not (c.inode == a.new.id)) (λ c finds. ap not (apart_below c.inode a.new.id (below c.inode (has_child c finds)))) t.contents a.valid.rows.entries) in
       let count : count_by (λ (c : Content). c.inode == a.new.id) (put by_entry (entry_of t a) t.contents) ≡ 1 = omega (arith, count_added (λ c. c.inode == a.new.id), one, none) in
       ap (λ b. cond b 1 (count_by (λ (c : Content). c.inode == a.new.id) (put by_entry (entry_of t a) t.contents))) (below_apart a.new.id root root_below) ∙ count
 
@@ -246,9 +245,9 @@ module _ (t : Tables) (a : Addition t) where
   pub counts_added : HasExactCounts (added t a)
   counts_added = record {
     inodes =
-        all_put by_inode (counts_inode (added t a)) a.new t.inodes (eq-eqb a.new.refcount (listed_inode_count (added t a) a.new.id) (a.once ∙ sym listed_new))
-        (all_two (λ (r : Inode). nat_lt r.id a.new.id) (counts_inode t) (counts_inode (added t a)) (λ r less own. ap (λ n. r.refcount == n) (listed_other r.id less) ∙ own) t.inodes numbers_below a.valid.counts.inodes);
-    names = all_pass (counts_after t a.id) (counts_name (added t a)) (λ r own. ap (λ n. r.refcount == n && nat_le 1 r.refcount) (listed_names r.id) ∙ own) a.names a.used.counts;
+        list_all-put by_inode (counts_inode (added t a)) a.new t.inodes (eq-eqb a.new.refcount (listed_inode_count (added t a) a.new.id) (a.once ∙ sym listed_new))
+        (list_all_weaker_both (λ (r : Inode). nat_lt r.id a.new.id) (counts_inode t) (counts_inode (added t a)) (λ r less own. ap (λ n. r.refcount == n) (listed_other r.id less) ∙ own) t.inodes numbers_below a.valid.counts.inodes);
+    names = list_all_weaker (counts_after t a.id) (counts_name (added t a)) (λ r own. ap (λ n. r.refcount == n && nat_le 1 r.refcount) (listed_names r.id) ∙ own) a.names a.used.counts;
     blocks = a.valid.counts.blocks;
     objects = a.valid.counts.objects;
   }

@@ -4,6 +4,7 @@ use Rattle.std.specs.Prelude.{IsTrue, not, ◌&&◌, ◌||◌, ◌==◌, ◌*◌
 use Rattle.std.specs.List.{list_all, list_any}
 use Rattle.std.specs.Cmp.{nat_cmp_total}
 use Rattle.std.specs.Ordering.{is_eq}
+use Rattle.std.proofs.lemmas.Bool.{and_from, and_parts}
 use Rattle.s3_base.specs.Names.{is_forbidden_name}
 use Rattle.s3_base.specs.declared.node_kind.Kind.{Kind}
 use Rattle.s3_base.specs.declared.node_kind.Kind.TheVariants as kinds
@@ -13,13 +14,10 @@ use Rattle.s3_rows.specs.Tables.{Tables, by_inode, by_entry}
 use Rattle.s3_rows.specs.Selections.{inode_at, target_at, bytes_cmp, bytes_of_name}
 use Rattle.s3_rows.specs.Counts.{listed_inode_count}
 use Rattle.s3_rows.specs.Validity.{IsValid, HasOneTree, HasDistinctBlocks, HasItsSizes, HasFreeNumbers, root, is_directory, has_inode, is_named, finds_of_entry, parent_of, leads_to_root, is_below_root, is_named_once, has_legal_name, have_one_name, lost_and_found, is_lost_and_found, is_no_lost_directory, is_number, has_its_size, is_in_file, differ}
-use Rattle.s3_rows.proofs.Passing.{both, first, second, all_pass}
-use Rattle.s3_rows.proofs.Placing.{put_rises}
-use Rattle.s3_rows.proofs.Finding.{found_passes, found_all, found_any, some_found}
-use Rattle.s3_rows.proofs.Batched.{pair_cmp_total}
-use Rattle.s3_rows.proofs.Replacing.{all_put}
+use Rattle.row_lemmas.proofs.Tests.{list_all_weaker, find_passes, find_passes_all, list_any_from_find, find_from_list_any, list_all_weaker_both, list_all_from_list_any, differ_agree}
+use Rattle.row_lemmas.proofs.Keyed.Put.{rises-put, list_all-put, length-put_new, list_any-put_new, find-put_new, differ-put}
+use Rattle.row_lemmas.proofs.Tables.{pair_cmp_total}
 use Rattle.tree_rows.proofs.Listed.{is_entry}
-use Rattle.entry_rows.proofs.Inserted.{all_two, all_of_none, length-put_new, any-put_new, find-put_new, differ_same, differ-put}
 use Rattle.entry_rows.proofs.NameUsed.{bytes_turned, below_apart}
 use Rattle.entry_rows.proofs.Added.{Addition, params_of, entry_of, added, eq_turned, numbers_below, below, told_any, told_kept, root_below, absent_inode, bytes_kept, bytes_new, has_name, has_parent, absent_entry, rows_added, listed_other, counts_added}
 
@@ -58,7 +56,7 @@ module _ (t : Tables) (a : Addition t) where
           → IsTrue (id == root || elim (option_map (λ (r : Content). r.parent) found) [ Some x ↦ leads_to_root steps (added t a) x | None ↦ false ])
       by_row further None is up = up
       by_row further (Some c) is up =
-          let finds : IsTrue (finds_of_entry t c) = found_all (λ r. r.inode == id) (finds_of_entry t) t.contents c a.valid.rows.entries is in
+          let finds : IsTrue (finds_of_entry t c) = find_passes_all (λ r. r.inode == id) (finds_of_entry t) t.contents c a.valid.rows.entries is in
           either_follows (id == root) (leads_to_root steps t c.parent) (leads_to_root steps (added t a) c.parent) (further c.parent (below t a c.parent (told_any (λ r. is_directory r.kind) (inode_at t c.parent) (has_parent t a c finds)))) up
 
   below_kept : (r : Inode) → IsTrue (nat_lt r.id a.new.id) → IsTrue (is_below_root t r) → IsTrue (is_below_root (added t a) r)
@@ -76,15 +74,15 @@ module _ (t : Tables) (a : Addition t) where
   legal_new : IsTrue (has_legal_name (added t a) (entry_of t a))
   legal_new =
       ap (λ b. nat_le (length b) 255 && not (is_forbidden_name b)) (bytes_new t a)
-      ∙ both (nat_le (length a.name) 255) (not (is_forbidden_name a.name)) (le-leb (length a.name) 255 a.short) (ap not a.legal)
+      ∙ and_from (nat_le (length a.name) 255) (not (is_forbidden_name a.name)) (le-leb (length a.name) 255 a.short) (ap not a.legal)
 
   unlike_kept : IsTrue (differ (have_one_name (added t a)) (put by_entry (entry_of t a) t.contents))
   unlike_kept =
-      let none : IsTrue (list_all (λ c. not (is_entry t a.directory.id a.name c)) t.contents) = all_of_none (is_entry t a.directory.id a.name) t.contents (ap not a.free) in
+      let none : IsTrue (list_all (λ c. not (is_entry t a.directory.id a.name c)) t.contents) = list_all_from_list_any (is_entry t a.directory.id a.name) t.contents (ap not a.free) in
       differ-put by_entry (have_one_name (added t a)) (entry_of t a) t.contents
-      (all_two (finds_of_entry t) (λ c. not (is_entry t a.directory.id a.name c)) (λ c. not (have_one_name (added t a) (entry_of t a) c)) (λ c finds other. ap not (before c finds) ∙ other) t.contents a.valid.rows.entries none)
-      (all_two (finds_of_entry t) (λ c. not (is_entry t a.directory.id a.name c)) (λ c. not (have_one_name (added t a) c (entry_of t a))) (λ c finds other. ap not (after c finds) ∙ other) t.contents a.valid.rows.entries none)
-      (differ_same (finds_of_entry t) (have_one_name t) (have_one_name (added t a)) same t.contents a.valid.rows.entries ∙ a.valid.tree.unlike)
+      (list_all_weaker_both (finds_of_entry t) (λ c. not (is_entry t a.directory.id a.name c)) (λ c. not (have_one_name (added t a) (entry_of t a) c)) (λ c finds other. ap not (before c finds) ∙ other) t.contents a.valid.rows.entries none)
+      (list_all_weaker_both (finds_of_entry t) (λ c. not (is_entry t a.directory.id a.name c)) (λ c. not (have_one_name (added t a) c (entry_of t a))) (λ c finds other. ap not (after c finds) ∙ other) t.contents a.valid.rows.entries none)
+      (differ_agree (finds_of_entry t) (have_one_name t) (have_one_name (added t a)) same t.contents a.valid.rows.entries ∙ a.valid.tree.unlike)
     where
       same : (x y : Content) → IsTrue (finds_of_entry t x) → IsTrue (finds_of_entry t y) → have_one_name (added t a) x y ≡ have_one_name t x y
       same x y one two = λ i. x.parent == y.parent && is_eq (bytes_cmp (bytes_kept t a x.name_id (has_name t a x one) i) (bytes_kept t a y.name_id (has_name t a y two) i))
@@ -100,44 +98,44 @@ module _ (t : Tables) (a : Addition t) where
 
   lost_kept : (c : Content) → IsTrue (finds_of_entry t c) → IsTrue (is_lost_and_found t c) → IsTrue (is_lost_and_found (added t a) c)
   lost_kept c finds own =
-      both (c.parent == root && is_eq (bytes_cmp (bytes_of_name (added t a) c.name_id) lost_and_found)) (has_inode is_directory (added t a) c.inode)
+      and_from (c.parent == root && is_eq (bytes_cmp (bytes_of_name (added t a) c.name_id) lost_and_found)) (has_inode is_directory (added t a) c.inode)
       (ap (λ b. c.parent == root && is_eq (bytes_cmp b lost_and_found)) (bytes_kept t a c.name_id (has_name t a c finds))
-      ∙ first (c.parent == root && is_eq (bytes_cmp (bytes_of_name t c.name_id) lost_and_found)) (has_inode is_directory t c.inode) own)
-      (told_kept t a (λ r. is_directory r.kind) c.inode (second (c.parent == root && is_eq (bytes_cmp (bytes_of_name t c.name_id) lost_and_found)) (has_inode is_directory t c.inode) own))
+      ∙ (and_parts (c.parent == root && is_eq (bytes_cmp (bytes_of_name t c.name_id) lost_and_found)) (has_inode is_directory t c.inode) own).0)
+      (told_kept t a (λ r. is_directory r.kind) c.inode (and_parts (c.parent == root && is_eq (bytes_cmp (bytes_of_name t c.name_id) lost_and_found)) (has_inode is_directory t c.inode) own).1)
 
   keeps_lost : IsTrue (list_any (is_lost_and_found (added t a)) (put by_entry (entry_of t a) t.contents))
   keeps_lost =
-      let lost = some_found (is_lost_and_found t) t.contents a.valid.tree.keeps_lost_and_found in
+      let lost = find_from_list_any (is_lost_and_found t) t.contents a.valid.tree.keeps_lost_and_found in
       let c : Content = lost.0 in
       let passes : IsTrue (is_lost_and_found (added t a) c) =
-      lost_kept c (found_all (is_lost_and_found t) (finds_of_entry t) t.contents c a.valid.rows.entries lost.1) (found_passes (is_lost_and_found t) t.contents c lost.1) in
-      any-put_new by_entry (is_lost_and_found (added t a)) (entry_of t a) t.contents (absent_entry t a)
-      ∙ either_second (is_lost_and_found (added t a) (entry_of t a)) (list_any (is_lost_and_found (added t a)) t.contents) (found_any (is_lost_and_found t) (is_lost_and_found (added t a)) t.contents c lost.1 passes)
+      lost_kept c (find_passes_all (is_lost_and_found t) (finds_of_entry t) t.contents c a.valid.rows.entries lost.1) (find_passes (is_lost_and_found t) t.contents c lost.1) in
+      list_any-put_new by_entry (is_lost_and_found (added t a)) (entry_of t a) t.contents (absent_entry t a)
+      ∙ either_second (is_lost_and_found (added t a) (entry_of t a)) (list_any (is_lost_and_found (added t a)) t.contents) (list_any_from_find (is_lost_and_found t) (is_lost_and_found (added t a)) t.contents c lost.1 passes)
 
   named_same : (x : ℕ) → IsTrue (nat_lt x a.new.id) → is_named (added t a) x ≡ is_named t x
-  named_same x less = any-put_new by_entry (λ r. r.inode == x) (entry_of t a) t.contents (absent_entry t a) ∙ ap (λ b. b || is_named t x) (below_apart a.new.id x less)
+  named_same x less = list_any-put_new by_entry (λ r. r.inode == x) (entry_of t a) t.contents (absent_entry t a) ∙ ap (λ b. b || is_named t x) (below_apart a.new.id x less)
 
   tree_added : HasOneTree (added t a)
   tree_added = record {
     is_rooted = told_kept t a (λ r. is_directory r.kind) root a.valid.tree.is_rooted;
     root_is_unnamed = ap not (named_same root (root_below t a)) ∙ a.valid.tree.root_is_unnamed;
     named_once =
-        all_put by_inode (is_named_once (added t a)) a.new t.inodes (ap (λ k. not (is_directory k) || a.new.id == root || listed_inode_count (added t a) a.new.id == 1) a.regular)
-        (all_two (λ (r : Inode). nat_lt r.id a.new.id) (is_named_once t) (is_named_once (added t a))
+        list_all-put by_inode (is_named_once (added t a)) a.new t.inodes (ap (λ k. not (is_directory k) || a.new.id == root || listed_inode_count (added t a) a.new.id == 1) a.regular)
+        (list_all_weaker_both (λ (r : Inode). nat_lt r.id a.new.id) (is_named_once t) (is_named_once (added t a))
         (λ r less own. ap (λ n. not (is_directory r.kind) || r.id == root || n == 1) (listed_other t a r.id less) ∙ own) t.inodes (numbers_below t a) a.valid.tree.named_once);
     below_root =
-        all_put by_inode (is_below_root (added t a)) a.new t.inodes (ap (λ k. not (is_directory k) || leads_to_root (length (put by_inode a.new t.inodes)) (added t a) a.new.id) a.regular)
-        (all_two (λ (r : Inode). nat_lt r.id a.new.id) (is_below_root t) (is_below_root (added t a)) below_kept t.inodes (numbers_below t a) a.valid.tree.below_root);
-    legal = all_put by_entry (has_legal_name (added t a)) (entry_of t a) t.contents legal_new (all_two (finds_of_entry t) (has_legal_name t) (has_legal_name (added t a)) legal_kept t.contents a.valid.rows.entries a.valid.tree.legal);
+        list_all-put by_inode (is_below_root (added t a)) a.new t.inodes (ap (λ k. not (is_directory k) || leads_to_root (length (put by_inode a.new t.inodes)) (added t a) a.new.id) a.regular)
+        (list_all_weaker_both (λ (r : Inode). nat_lt r.id a.new.id) (is_below_root t) (is_below_root (added t a)) below_kept t.inodes (numbers_below t a) a.valid.tree.below_root);
+    legal = list_all-put by_entry (has_legal_name (added t a)) (entry_of t a) t.contents legal_new (list_all_weaker_both (finds_of_entry t) (has_legal_name t) (has_legal_name (added t a)) legal_kept t.contents a.valid.rows.entries a.valid.tree.legal);
     unlike = unlike_kept;
     keeps_lost_and_found = keeps_lost;
   }
 
   orphans_added : IsTrue (list_all (is_no_lost_directory (added t a)) (put by_inode a.new t.inodes))
   orphans_added =
-      all_put by_inode (is_no_lost_directory (added t a)) a.new t.inodes
+      list_all-put by_inode (is_no_lost_directory (added t a)) a.new t.inodes
       (either_second (a.new.id == root || is_named (added t a) a.new.id) (not (is_directory a.new.kind)) (ap (λ k. not (is_directory k)) a.regular))
-      (all_two (λ (r : Inode). nat_lt r.id a.new.id) (is_no_lost_directory t) (is_no_lost_directory (added t a))
+      (list_all_weaker_both (λ (r : Inode). nat_lt r.id a.new.id) (is_no_lost_directory t) (is_no_lost_directory (added t a))
       (λ r less own. ap (λ b. r.id == root || b || not (is_directory r.kind)) (named_same r.id less) ∙ own) t.inodes (numbers_below t a) a.valid.orphans)
 
   -- ---- what the parameters say
@@ -154,9 +152,9 @@ module _ (t : Tables) (a : Addition t) where
   sizes_added =
       let was : HasItsSizes t a.parameters = subst (λ p. HasItsSizes t p) same_params a.valid.sizes in
       record {
-        inodes = all_put by_inode (has_its_size t) a.new t.inodes size_new was.inodes;
-        inode_blocks = all_pass (λ y. is_in_file t a.parameters y.inode y.blockno) (λ y. is_in_file (added t a) (params_of t a) y.inode y.blockno) (λ y own. in_file y.inode y.blockno own) t.inode_blocks was.inode_blocks;
-        slots = all_pass (λ y. is_in_file t a.parameters y.inode y.blockno) (λ y. is_in_file (added t a) (params_of t a) y.inode y.blockno) (λ y own. in_file y.inode y.blockno own) t.slots was.slots;
+        inodes = list_all-put by_inode (has_its_size t) a.new t.inodes size_new was.inodes;
+        inode_blocks = list_all_weaker (λ y. is_in_file t a.parameters y.inode y.blockno) (λ y. is_in_file (added t a) (params_of t a) y.inode y.blockno) (λ y own. in_file y.inode y.blockno own) t.inode_blocks was.inode_blocks;
+        slots = list_all_weaker (λ y. is_in_file t a.parameters y.inode y.blockno) (λ y. is_in_file (added t a) (params_of t a) y.inode y.blockno) (λ y own. in_file y.inode y.blockno own) t.slots was.slots;
         spots = was.spots;
         numbers = was.numbers;
         lengths = was.lengths;
@@ -173,8 +171,8 @@ module _ (t : Tables) (a : Addition t) where
       let was : HasFreeNumbers t a.parameters = subst (λ p. HasFreeNumbers t p) same_params a.valid.free in
       record {
         inodes =
-            all_put by_inode (λ r. nat_lt r.id (a.parameters.next_inode + 1)) a.new t.inodes (lt-ltb a.new.id (a.parameters.next_inode + 1) (omega (arith, a.number)))
-            (all_pass (λ r. nat_lt r.id a.parameters.next_inode) (λ r. nat_lt r.id (a.parameters.next_inode + 1))
+            list_all-put by_inode (λ r. nat_lt r.id (a.parameters.next_inode + 1)) a.new t.inodes (lt-ltb a.new.id (a.parameters.next_inode + 1) (omega (arith, a.number)))
+            (list_all_weaker (λ r. nat_lt r.id a.parameters.next_inode) (λ r. nat_lt r.id (a.parameters.next_inode + 1))
             (λ r less. lt-ltb r.id (a.parameters.next_inode + 1) (omega (arith, ltb-true r.id a.parameters.next_inode less))) t.inodes was.inodes);
         names = a.used.below;
         blocks = was.blocks;
@@ -186,9 +184,9 @@ module _ (t : Tables) (a : Addition t) where
     params = params_of t a;
     is_made = refl;
     ordered = record {
-      inodes = put_rises by_inode nat_cmp_total a.new t.inodes a.valid.ordered.inodes;
+      inodes = rises-put by_inode nat_cmp_total a.new t.inodes a.valid.ordered.inodes;
       names = a.used.rise;
-      contents = put_rises by_entry pair_cmp_total (entry_of t a) t.contents a.valid.ordered.contents;
+      contents = rises-put by_entry pair_cmp_total (entry_of t a) t.contents a.valid.ordered.contents;
       inode_blocks = a.valid.ordered.inode_blocks;
       blocks = a.valid.ordered.blocks;
       objects = a.valid.ordered.objects;

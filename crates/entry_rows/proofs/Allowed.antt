@@ -14,7 +14,7 @@ use Rattle.s3_rows.specs.Rows.{Inode, Content, Parameters}
 use Rattle.s3_rows.specs.Tables.{Tables}
 use Rattle.s3_rows.specs.Selections.{inode_at}
 use Rattle.s3_rows.specs.Validity.{IsValid, HasUniqueNames, has_inode, is_directory}
-use Rattle.s3_rows.proofs.Finding.{some_found}
+use Rattle.row_lemmas.proofs.Tests.{find_from_list_any}
 use Rattle.tree_rows.specs.Shapes.{NodeShape, TreeShape, shape_of_content, node_of_row, Represents}
 use Rattle.tree_rows.proofs.Listed.{is_entry}
 use Rattle.tree_rows.proofs.Replaced.{node_of}
@@ -94,7 +94,7 @@ module _ (t : Tables) (whole : Tree) (directory : Inode) (v : IsValid t) (same :
 
       by_case : (b : Bool) → list_any (is_entry t directory.id name) t.contents ≡ b → b ≡ false
       by_case true any =
-          let found = some_found (is_entry t directory.id name) t.contents any in
+          let found = find_from_list_any (is_entry t directory.id name) t.contents any in
           absurd (by_row found.0 found.1)
       by_case false none = refl
 

@@ -17,9 +17,8 @@ use Rattle.s3_rows.specs.Keyed.{put}
 use Rattle.s3_rows.specs.Tables.{Tables, by_inode, by_name, by_entry}
 use Rattle.s3_rows.specs.Batches.{tables_after}
 use Rattle.s3_rows.specs.Selections.{inode_at, name_at}
-use Rattle.s3_rows.proofs.Batched.{joined}
-use Rattle.s3_rows.proofs.Placing.{put_rises}
-use Rattle.s3_rows.proofs.Sorting.{row_at-put}
+use Rattle.row_lemmas.proofs.Keyed.Put.{rises-put, row_at-put}
+use Rattle.row_lemmas.proofs.Tables.{tables_after-tables_after}
 use Rattle.tree_rows.specs.Shapes.{Regular, Directory, Link, NodeShape, TreeShape, shape_of_content, shape_of_node, node_of_row, content_of_row, entries_in, attributes_in, target_in, Represents}
 use Rattle.tree_rows.proofs.Listed.{is_entry}
 use Rattle.tree_rows.proofs.Whole.{content_of_kind}
@@ -78,7 +77,7 @@ module _ (t : Tables) (p : Parameters) (directory : Inode) (more : Raised) (name
   unfolding rest
   after_is =
       let named_tables : Tables = record t { params = Some raise.params; names = put by_name raise.row t.names } in
-      sym (joined more.changes (rest more.id) (with_drawn p t)) ∙ ap (tables_after (rest more.id)) raise.after
+      sym (tables_after-tables_after more.changes (rest more.id) (with_drawn p t)) ∙ ap (tables_after (rest more.id)) raise.after
       ∙ ap (λ id. tables_after (rest id) named_tables) (sym raise.id)
 
   kept : (old : Name) → name_at t raise.row.id ≡ Some old → old.name ≡ raise.row.name
@@ -144,7 +143,7 @@ module _ (t : Tables) (p : Parameters) (directory : Inode) (more : Raised) (name
       let added : Tables = record t { params = Some raise.params; inodes = put by_inode new t.inodes } in
       let first : Represents added (with_node file (with_handle handle whole)) = added_represents t whole p raise.params new file handle same is.params (raise.size, raise.next) refl new_shape in
       let next : p.next_inode ≡ whole.next_inode = sym (ap (λ (x : Option Parameters). unwrap_or (option_map (λ y. y.next_inode) x) 0) is.params) ∙ ap (λ (s : TreeShape). s.next_inode) same in
-      changed_represents added after (with_node file (with_handle handle whole)) directory touched_directory f refl refl (put_rises by_inode nat_cmp_total new t.inodes is.valid.ordered.inodes) first directory_there others
+      changed_represents added after (with_node file (with_handle handle whole)) directory touched_directory f refl refl (rises-put by_inode nat_cmp_total new t.inodes is.valid.ordered.inodes) first directory_there others
       (directory_shape whole.next_inode next)
 
 pub created_represents : (t : Tables) (whole : Tree) (p : Parameters) (directory : Inode) (more : Raised) (name : List ℕ) (pass mode uid gid now : ℕ)

@@ -8,8 +8,8 @@ use Rattle.s3_rows.specs.Rows.{Inode, Parameters}
 use Rattle.s3_rows.specs.Keyed.{has_key, put}
 use Rattle.s3_rows.specs.Tables.{Tables, by_inode}
 use Rattle.s3_rows.specs.Batches.{after_change, tables_after}
-use Rattle.s3_rows.proofs.Finding.{found_all}
-use Rattle.s3_rows.proofs.Replacing.{all_put}
+use Rattle.row_lemmas.proofs.Tests.{find_passes_all}
+use Rattle.row_lemmas.proofs.Keyed.Put.{list_all-put}
 use Rattle.tree_rows.specs.Shapes.{Represents}
 use Rattle.ref_counts.specs.Names.{Raised}
 use Rattle.ref_counts.specs.Plans.{IsStep, AreNamed, settings}
@@ -36,8 +36,8 @@ module _ (t : Tables) (p : Parameters) (directory new : Inode) (more : Raised) (
   named_after : AreNamed t → AreNamed touched_after
   unfolding has_names
   named_after named =
-      all_put by_inode has_names (touched_row now directory) (put by_inode new t.inodes) (found_all (has_key by_inode directory.id) has_names t.inodes directory named is.there)
-      (all_put by_inode has_names new t.inodes (ap (λ n. not (n == 0)) is.once) named)
+      list_all-put by_inode has_names (touched_row now directory) (put by_inode new t.inodes) (find_passes_all (has_key by_inode directory.id) has_names t.inodes directory named is.there)
+      (list_all-put by_inode has_names new t.inodes (ap (λ n. not (n == 0)) is.once) named)
 
 pub created_step : (t : Tables) (whole : Tree) (p : Parameters) (directory : Inode) (more : Raised) (name : List ℕ) (pass mode uid gid now : ℕ)
     → IsCreation t p directory (new_file_row p.next_inode mode uid gid now) more name → Represents t whole

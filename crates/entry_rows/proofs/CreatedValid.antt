@@ -12,13 +12,13 @@ use Rattle.s3_rows.specs.Tables.{Tables, by_entry}
 use Rattle.s3_rows.specs.Batches.{after_change, tables_after}
 use Rattle.s3_rows.specs.Selections.{inode_at}
 use Rattle.s3_rows.specs.Validity.{IsValid, HasUniqueNames, is_directory}
-use Rattle.s3_rows.proofs.Batched.{joined}
-use Rattle.s3_rows.proofs.Replacing.{replaced_valid}
+use Rattle.row_lemmas.proofs.Keyed.Put.{length-put_new}
+use Rattle.row_lemmas.proofs.Tables.{tables_after-tables_after}
+use Rattle.row_lemmas.proofs.ReplacedInode.{replaced_valid}
 use Rattle.tree_rows.proofs.Listed.{is_entry}
 use Rattle.ref_counts.specs.Names.{Raised, raised}
 use Rattle.ref_counts.specs.Plans.{next_inode_of, next_name_of, uses_of}
 use Rattle.entry_rows.specs.Creation.{touched_row, with_drawn, creation}
-use Rattle.entry_rows.proofs.Inserted.{length-put_new}
 use Rattle.entry_rows.proofs.NameUsed.{is_below, Used, is_used}
 use Rattle.entry_rows.proofs.Added.{Addition, entry_of, added, told_any, below, same_inode, folder_told, absent_entry}
 use Rattle.entry_rows.proofs.AddedTree.{added_valid}
@@ -72,7 +72,7 @@ pub after_creation : (t : Tables) (p : Parameters) (directory new : Inode) (more
     → tables_after (creation p directory more new now) t ≡ after_change (changes.PutInode (touched_row now directory)) (added t (added_to t p directory new more name is))
 after_creation t p directory new more name now is =
     let rest : List Change = changes.PutContent (record { parent = directory.id; name_id = more.id; inode = new.id }) ∷ changes.PutInode new ∷ changes.PutInode (touched_row now directory) ∷ [] in
-    sym (joined more.changes rest (with_drawn p t)) ∙ ap (tables_after rest) (used_of t p directory new more name is).is
+    sym (tables_after-tables_after more.changes rest (with_drawn p t)) ∙ ap (tables_after rest) (used_of t p directory new more name is).is
 
 pub created_valid : (t : Tables) (p : Parameters) (directory new : Inode) (more : Raised) (name : List ℕ) (now : ℕ) → IsCreation t p directory new more name
     → IsValid (tables_after (creation p directory more new now) t)

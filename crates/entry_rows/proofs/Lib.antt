@@ -5,9 +5,7 @@ pub mod CreatedShape
 pub mod CreatedStep
 pub mod CreatedValid
 pub mod Entering
-pub mod Inserted
 pub mod NameUsed
-pub mod Putting
 pub mod Raising
 pub mod Stepping
 pub mod Unused

@@ -11,8 +11,9 @@ use Rattle.s3_rows.specs.Tables.{Tables, by_name}
 use Rattle.s3_rows.specs.Batches.{tables_after}
 use Rattle.s3_rows.specs.Selections.{name_at, name_of_bytes, bytes_cmp}
 use Rattle.s3_rows.specs.Validity.{IsValid}
-use Rattle.s3_rows.proofs.Finding.{found_passes, found_all, finds_itself}
-use Rattle.s3_rows.proofs.Sorting.{is_equal, row_at-put}
+use Rattle.row_lemmas.proofs.Tests.{find_passes, find_passes_all, equal_from_is_eq}
+use Rattle.row_lemmas.proofs.Keyed.RowAt.{row_at_from_find}
+use Rattle.row_lemmas.proofs.Keyed.Put.{row_at-put}
 use Rattle.ref_counts.specs.Names.{Raised, raised, raised_of, raised_row, new_row}
 use Rattle.ref_counts.proofs.Named.{has_bytes}
 use Rattle.entry_rows.specs.Creation.{drawn, with_drawn}
@@ -30,11 +31,11 @@ pub record IsRaise (t : Tables) (p : Parameters) (more : Raised) (name : List �
 
 -- numbers that compare alike are one number
 pub one_number : (a b : ℕ) → IsTrue (is_eq (nat_cmp a b)) → a ≡ b
-one_number a b same = nat_cmp-IsAntisymmetric a b (is_equal (nat_cmp a b) same)
+one_number a b same = nat_cmp-IsAntisymmetric a b (equal_from_is_eq (nat_cmp a b) same)
 
 -- and so are bytes
 pub one_text : (a b : List ℕ) → IsTrue (is_eq (bytes_cmp a b)) → a ≡ b
-one_text a b same = slice_cmp-IsAntisymmetric nat_cmp-IsAntisymmetric a b (is_equal (bytes_cmp a b) same)
+one_text a b same = slice_cmp-IsAntisymmetric nat_cmp-IsAntisymmetric a b (equal_from_is_eq (bytes_cmp a b) same)
 
 -- the parameters of valid tables
 pub params_of : (t : Tables) (p : Parameters) (v : IsValid t) → t.params ≡ Some p → v.params ≡ p
@@ -46,8 +47,8 @@ module _ (t : Tables) (p : Parameters) (more : Raised) (name : List ℕ) (v : Is
   -- no name has the next number
   fresh : (old : Name) → name_at t p.next_name ≡ Some old → ⊥
   fresh old found =
-      let below : IsTrue (nat_lt old.id v.params.next_name) = found_all (has_key by_name p.next_name) (λ (r : Name). nat_lt r.id v.params.next_name) t.names old v.free.names found in
-      let number : p.next_name ≡ old.id = one_number p.next_name old.id (found_passes (has_key by_name p.next_name) t.names old found) in
+      let below : IsTrue (nat_lt old.id v.params.next_name) = find_passes_all (has_key by_name p.next_name) (λ (r : Name). nat_lt r.id v.params.next_name) t.names old v.free.names found in
+      let number : p.next_name ≡ old.id = one_number p.next_name old.id (find_passes (has_key by_name p.next_name) t.names old found) in
       let next : v.params.next_name ≡ p.next_name = ap (λ (x : Parameters). x.next_name) (params_of t p v made) in
       omega (arith, ltb-true old.id v.params.next_name below, number, next)
 
@@ -58,11 +59,11 @@ module _ (t : Tables) (p : Parameters) (more : Raised) (name : List ℕ) (v : Is
       up = record n { refcount = n.refcount + 1 }
 
       bytes : n.name ≡ name
-      bytes = one_text n.name name (found_passes (has_bytes name) t.names n found)
+      bytes = one_text n.name name (find_passes (has_bytes name) t.names n found)
 
       kept : (old : Name) → name_at t n.id ≡ Some old → old.name ≡ name
       kept old there =
-          let itself : Some n ≡ Some old = sym (finds_itself by_name nat_cmp_total (has_bytes name) t.names n v.ordered.names found) ∙ there in
+          let itself : Some n ≡ Some old = sym (row_at_from_find by_name nat_cmp_total (has_bytes name) t.names n v.ordered.names found) ∙ there in
           let same : n ≡ old = cc itself in
           ap (λ (x : Name). x.name) (sym same) ∙ bytes
 

@@ -9,18 +9,19 @@ use Rattle.std.specs.declared.cmp.Ordering.{Ordering}
 use Rattle.std.specs.declared.cmp.Ordering.TheVariants.{Less, Equal, Greater}
 use Rattle.std.specs.Ordering.{nat_cmp, is_eq, is_lt}
 use Rattle.std.specs.BTreeMap.{insert_entry, is_at}
+use Rattle.std.proofs.lemmas.Bool.{and_parts}
 use Rattle.plain_tree.specs.Tree.{Node, Handle, Tree, node_at, changed_by, change_node, with_node, with_handle}
 use Rattle.s3_rows.specs.Rows.{Inode, Parameters}
 use Rattle.s3_rows.specs.Keyed.{is_past, rises, put, row_at}
 use Rattle.s3_rows.specs.Tables.{Tables, by_inode}
 use Rattle.s3_rows.specs.Selections.{inode_at}
-use Rattle.s3_rows.proofs.Passing.{first, second, all_pass}
-use Rattle.s3_rows.proofs.Placing.{past_both, past_same}
-use Rattle.s3_rows.proofs.Replacing.{none_before}
+use Rattle.row_lemmas.proofs.Tests.{list_all_weaker}
+use Rattle.row_lemmas.proofs.Keyed.Rises.{is_past_trans, is_past_same}
+use Rattle.row_lemmas.proofs.Keyed.RowAt.{row_at_none_found}
+use Rattle.row_lemmas.proofs.Keyed.Put.{map-put_entry, map-insert_entry}
 use Rattle.tree_rows.specs.Shapes.{NodeShape, TreeShape, shape_of_node, shape_of_tree, shape_of_tables, node_of_row, Represents}
 use Rattle.tree_rows.proofs.Shaped.{found_alike}
 use Rattle.tree_rows.proofs.Replaced.{node_of}
-use Rattle.entry_rows.proofs.Putting.{map-put_entry, map-insert_entry}
 
 -- a node with its number, in shape, and the shape of a row
 abbrev pub shaped : ℕ × Node → ℕ × NodeShape
@@ -63,7 +64,7 @@ shaped-set test (e ∷ es) w = by_case (shaped-set test es w) (test e.0)
 module _ (t u : Tables) (new : Inode) (same : (x : Inode) → is_eq (nat_cmp new.id x.id) ≡ false → node_of_row u x ≡ node_of_row t x) where
   same_all : (rows : List Inode) → IsTrue (list_all (is_past by_inode new.id) rows) → map (row_shape u) rows ≡ map (row_shape t) rows
   same_all [] past = refl
-  same_all (x ∷ xs) past = λ i. (x.id, same x (apart (nat_cmp new.id x.id) (first (is_past by_inode new.id x) (list_all (is_past by_inode new.id) xs) past)) i) ∷ same_all xs (second (is_past by_inode new.id x) (list_all (is_past by_inode new.id) xs) past) i
+  same_all (x ∷ xs) past = λ i. (x.id, same x (apart (nat_cmp new.id x.id) (and_parts (is_past by_inode new.id x) (list_all (is_past by_inode new.id) xs) past).0) i) ∷ same_all xs (and_parts (is_past by_inode new.id x) (list_all (is_past by_inode new.id) xs) past).1 i
     where
       apart : (c : Ordering) → IsTrue (is_lt c) → is_eq c ≡ false
       apart Less is = refl
@@ -74,19 +75,19 @@ module _ (t u : Tables) (new : Inode) (same : (x : Inode) → is_eq (nat_cmp new
   put-set : (old : Inode) (rows : List Inode) → IsTrue (rises by_inode rows) → row_at by_inode new.id rows ≡ Some old
       → map (row_shape u) (put by_inode new rows) ≡ set_value (is_at (nat_cmp new.id)) (map (row_shape t) rows) (node_of_row u new)
   put-set old [] rise there = absurd (cc there)
-  put-set old (x ∷ xs) rise there = by_case (put-set old xs (second (list_all (is_past by_inode x.id) xs) (rises by_inode xs) rise)) (nat_cmp new.id x.id) refl there
+  put-set old (x ∷ xs) rise there = by_case (put-set old xs (and_parts (list_all (is_past by_inode x.id) xs) (rises by_inode xs) rise).1) (nat_cmp new.id x.id) refl there
     where
       later : IsTrue (list_all (is_past by_inode x.id) xs)
-      later = first (list_all (is_past by_inode x.id) xs) (rises by_inode xs) rise
+      later = (and_parts (list_all (is_past by_inode x.id) xs) (rises by_inode xs) rise).0
 
       by_case : (row_at by_inode new.id xs ≡ Some old → map (row_shape u) (put by_inode new xs) ≡ set_value (is_at (nat_cmp new.id)) (map (row_shape t) xs) (node_of_row u new))
           → (c : Ordering) → nat_cmp new.id x.id ≡ c → cond (is_eq c) (Some x) (row_at by_inode new.id xs) ≡ Some old
           → map (row_shape u) (elim c [ Less ↦ new ∷ x ∷ xs | Equal ↦ new ∷ xs | Greater ↦ x ∷ put by_inode new xs ])
           ≡ cond (is_eq c) ((x.id, node_of_row u new) ∷ map (row_shape t) xs) (row_shape t x ∷ set_value (is_at (nat_cmp new.id)) (map (row_shape t) xs) (node_of_row u new))
       by_case others Less is found =
-          none_before by_inode nat_cmp_total new.id xs old (all_pass (is_past by_inode x.id) (is_past by_inode new.id) (λ y. past_both by_inode nat_cmp_total new.id x.id y is) xs later) found
+          row_at_none_found by_inode new.id xs old (list_all_weaker (is_past by_inode x.id) (is_past by_inode new.id) (λ y. is_past_trans by_inode nat_cmp_total new.id x.id y is) xs later) found
       by_case others Equal is found =
-          let rest : map (row_shape u) xs ≡ map (row_shape t) xs = same_all xs (all_pass (is_past by_inode x.id) (is_past by_inode new.id) (λ y. past_same by_inode nat_cmp_total new.id x.id y is) xs later) in
+          let rest : map (row_shape u) xs ≡ map (row_shape t) xs = same_all xs (list_all_weaker (is_past by_inode x.id) (is_past by_inode new.id) (λ y. is_past_same by_inode nat_cmp_total new.id x.id y is) xs later) in
           λ i. (nat_cmp-IsAntisymmetric new.id x.id is i, node_of_row u new) ∷ rest i
       by_case others Greater is found = λ i. (x.id, same x (ap is_eq is) i) ∷ others found i
 

@@ -5,6 +5,7 @@ use Rattle.std.specs.List.{list_all}
 use Rattle.std.proofs.lemmas.List.Sums.{sum_by-cons}
 use Rattle.std.specs.declared.cmp.Ordering.TheVariants.{Less, Equal, Greater}
 use Rattle.std.specs.Ordering.{nat_cmp, is_lt, ordering_then}
+use Rattle.std.proofs.lemmas.Bool.{and_parts}
 use Rattle.plain_tree.specs.Attributes.{at_most_u64}
 use Rattle.s3_rows.specs.declared.table_rows.Row.{Row}
 use Rattle.s3_rows.specs.declared.table_rows.Row.TheVariants as rows
@@ -16,7 +17,7 @@ use Rattle.s3_rows.specs.Keyed.{pair_cmp}
 use Rattle.s3_rows.specs.Tables.{Tables, IsOrdered}
 use Rattle.s3_rows.specs.Selections.{is_row_past, rows_of, page_of, fits_key}
 use Rattle.s3_rows.specs.Told.{key_of_row, rows_rise, is_row_of, is_page_of}
-use Rattle.s3_rows.proofs.Passing.{first, second, all_pass}
+use Rattle.row_lemmas.proofs.Tests.{list_all_weaker}
 use Rattle.inode_ops.specs.declared.statfs.Tally.{Tally}
 use Rattle.inode_ops.specs.Tallies.{bytes_of_row, with_row, with_rows, IsCounted, is_short, has_short_key}
 use Rattle.inode_ops.proofs.Walked.{key_past, past_is, rest_past, table_rises}
@@ -134,16 +135,16 @@ closer (keys.One k) (keys.One n) past start short = omega (arith, ltb-true k n p
 closer (keys.Two k l) (keys.One n) past start short = absurd (cc past)
 closer (keys.One k) (keys.Two m n) past start short = absurd (cc past)
 closer (keys.Two k l) (keys.Two m n) past start short =
-    let small : l < 2 ^ 62 = ltb-true l (2 ^ 62) (second (nat_lt k (2 ^ 62)) (nat_lt l (2 ^ 62)) start) in
-    let first_part : m < 2 ^ 62 = ltb-true m (2 ^ 62) (first (nat_lt m (2 ^ 62)) (nat_lt n (2 ^ 62)) short) in
-    let second_part : n < 2 ^ 62 = ltb-true n (2 ^ 62) (second (nat_lt m (2 ^ 62)) (nat_lt n (2 ^ 62)) short) in
+    let small : l < 2 ^ 62 = ltb-true l (2 ^ 62) (and_parts (nat_lt k (2 ^ 62)) (nat_lt l (2 ^ 62)) start).1 in
+    let first_part : m < 2 ^ 62 = ltb-true m (2 ^ 62) (and_parts (nat_lt m (2 ^ 62)) (nat_lt n (2 ^ 62)) short).0 in
+    let second_part : n < 2 ^ 62 = ltb-true n (2 ^ 62) (and_parts (nat_lt m (2 ^ 62)) (nat_lt n (2 ^ 62)) short).1 in
     omega (arith, pair_below k l m n past small, first_part, second_part)
 
 -- what the keys of all rows pass, the key of the last passes
 pub last_passes : (p : RowKey → Bool) (c : Tally) (page : List Row) → IsTrue (p c.after) → IsTrue (list_all (λ r. p (key_of_row r)) page) → IsTrue (p (with_rows c page).after)
 last_passes p c [] start all = start
 last_passes p c (r ∷ rs) start all =
-    last_passes p (with_row c r) rs (first (p (key_of_row r)) (list_all (λ x. p (key_of_row x)) rs) all) (second (p (key_of_row r)) (list_all (λ x. p (key_of_row x)) rs) all)
+    last_passes p (with_row c r) rs (and_parts (p (key_of_row r)) (list_all (λ x. p (key_of_row x)) rs) all).0 (and_parts (p (key_of_row r)) (list_all (λ x. p (key_of_row x)) rs) all).1
 
 one_nearer : (c : Tally) (r : Row) → IsTrue (is_short c.after) → IsTrue (has_short_key r) → IsTrue (is_row_past c.after r) → left_after (key_of_row r) < left_after c.after
 one_nearer c r start short past = closer c.after (key_of_row r) (sym (past_is c.after r) ∙ past) start short
@@ -151,13 +152,13 @@ one_nearer c r start short past = closer c.after (key_of_row r) (sym (past_is c.
 -- a page brings the count nearer to the end
 pub nearer : (c : Tally) (r : Row) (rs : List Row) → IsTrue (is_short c.after) → IsTrue (list_all has_short_key (r ∷ rs)) → IsTrue (list_all (is_row_past c.after) (r ∷ rs)) → IsTrue (rows_rise (r ∷ rs))
     → left_after (with_rows c (r ∷ rs)).after < left_after c.after
-nearer c r [] start short past rise = one_nearer c r start (first (has_short_key r) true short) (first (is_row_past c.after r) true past)
+nearer c r [] start short past rise = one_nearer c r start (and_parts (has_short_key r) true short).0 (and_parts (is_row_past c.after r) true past).0
 nearer c r (s ∷ ss) start short past rise =
-    let own : IsTrue (has_short_key r) = first (has_short_key r) (list_all has_short_key (s ∷ ss)) short in
-    let next : left_after (key_of_row r) < left_after c.after = one_nearer c r start own (first (is_row_past c.after r) (list_all (is_row_past c.after) (s ∷ ss)) past) in
+    let own : IsTrue (has_short_key r) = (and_parts (has_short_key r) (list_all has_short_key (s ∷ ss)) short).0 in
+    let next : left_after (key_of_row r) < left_after c.after = one_nearer c r start own (and_parts (is_row_past c.after r) (list_all (is_row_past c.after) (s ∷ ss)) past).0 in
     let rest : left_after (with_rows (with_row c r) (s ∷ ss)).after < left_after (key_of_row r) =
-    nearer (with_row c r) s ss own (second (has_short_key r) (list_all has_short_key (s ∷ ss)) short) (first (list_all (is_row_past (key_of_row r)) (s ∷ ss)) (rows_rise (s ∷ ss)) rise)
-    (second (list_all (is_row_past (key_of_row r)) (s ∷ ss)) (rows_rise (s ∷ ss)) rise) in
+    nearer (with_row c r) s ss own (and_parts (has_short_key r) (list_all has_short_key (s ∷ ss)) short).1 (and_parts (list_all (is_row_past (key_of_row r)) (s ∷ ss)) (rows_rise (s ∷ ss)) rise).0
+    (and_parts (list_all (is_row_past (key_of_row r)) (s ∷ ss)) (rows_rise (s ∷ ss)) rise).1 in
     omega (arith, next, rest)
 
 pub page_nearer : (c next : Tally) (page : List Row) (table : TableName) (max : ℕ) → (length page ≡ 0 → ⊥) → next ≡ with_rows c page → IsTrue (is_short c.after) → IsTrue (list_all has_short_key page)
@@ -165,7 +166,7 @@ pub page_nearer : (c next : Tally) (page : List Row) (table : TableName) (max : 
 page_nearer c next [] table max some added start short is = absurd (some refl)
 page_nearer c next (r ∷ rs) table max some added start short is =
     subst (λ (n : Tally). left_after n.after < left_after c.after) (sym added)
-    (nearer c r rs start short (second _ (list_all (is_row_past c.after) (r ∷ rs)) (first _ (rows_rise (r ∷ rs)) is)) (second _ (rows_rise (r ∷ rs)) is))
+    (nearer c r rs start short (and_parts _ (list_all (is_row_past c.after) (r ∷ rs)) (and_parts _ (rows_rise (r ∷ rs)) is).0).1 (and_parts _ (rows_rise (r ∷ rs)) is).1)
 
 -- ---- keys that fit their table
 
@@ -183,8 +184,8 @@ row_fits _ _ is = absurd (cc is)
 
 pub page_fits : (c next : Tally) (page : List Row) (table : TableName) (max : ℕ) → next ≡ with_rows c page → IsTrue (fits_key table c.after) → IsTrue (is_page_of table c.after max page) → IsTrue (fits_key table next.after)
 page_fits c next page table max added start is =
-    let of_table : IsTrue (list_all (is_row_of table) page) = second _ (list_all (is_row_of table) page) (first _ (list_all (is_row_past c.after) page) (first _ (rows_rise page) is)) in
-    subst (λ (n : Tally). IsTrue (fits_key table n.after)) (sym added) (last_passes (fits_key table) c page start (all_pass (is_row_of table) (λ r. fits_key table (key_of_row r)) (row_fits table) page of_table))
+    let of_table : IsTrue (list_all (is_row_of table) page) = (and_parts _ (list_all (is_row_of table) page) (and_parts _ (list_all (is_row_past c.after) page) (and_parts _ (rows_rise page) is).0).0).1 in
+    subst (λ (n : Tally). IsTrue (fits_key table n.after)) (sym added) (last_passes (fits_key table) c page start (list_all_weaker (is_row_of table) (λ r. fits_key table (key_of_row r)) (row_fits table) page of_table))
 
 pub page_short : (c next : Tally) (page : List Row) → next ≡ with_rows c page → IsTrue (is_short c.after) → IsTrue (list_all has_short_key page) → IsTrue (is_short next.after)
 page_short c next page added start short = subst (λ (n : Tally). IsTrue (is_short n.after)) (sym added) (last_passes is_short c page start short)

@@ -7,6 +7,7 @@ use Rattle.std.specs.BTreeMap.{is_at}
 use Rattle.std.specs.List.{list_all, list_any, AllByRecursion}
 use Rattle.std.specs.Cmp.{nat_cmp_total}
 use Rattle.std.proofs.lemmas.List.Sums.{sum_by-cons}
+use Rattle.std.proofs.lemmas.Bool.{and_from, and_parts}
 use Rattle.s3_base.specs.Errors.{ebadf, enospc}
 use Rattle.s3_base.specs.declared.errors.Errno.{Errno}
 use Rattle.op_frames.specs.declared.operation.Op.TheVariants as ops
@@ -25,8 +26,8 @@ use Rattle.s3_rows.specs.Keyed.{has_key}
 use Rattle.s3_rows.specs.Tables.{Tables, by_inode}
 use Rattle.s3_rows.specs.Selections.{inode_at}
 use Rattle.s3_rows.specs.Validity.{IsValid}
-use Rattle.s3_rows.proofs.Passing.{both, first, second}
-use Rattle.s3_rows.proofs.Finding.{found_all}
+use Rattle.row_lemmas.proofs.Tests.{find_passes_all}
+use Rattle.row_lemmas.proofs.Keyed.RowAt.{row_at_own}
 use Rattle.op_checks.specs.Checks.{Checks}
 use Rattle.op_checks.specs.Rows.{row_check, file_row_check, open_row_check}
 use Rattle.op_checks.proofs.Nodes.{node_there, node_check-row, file_check-row, open_check-row}
@@ -35,7 +36,6 @@ use Rattle.ref_counts.specs.Plans.{IsPlanOf, AreNamed}
 use Rattle.tree_rows.specs.Attrs.{attr_of_row}
 use Rattle.tree_rows.specs.Shapes.{NodeShape, TreeShape, shape_of_node, node_of_row, Represents}
 use Rattle.tree_rows.proofs.Attributed.{attr_alike}
-use Rattle.tree_rows.proofs.Counting.{self_found}
 use Rattle.tree_rows.proofs.Rooted.{link_count_is}
 use Rattle.inode_ops.specs.Answers.{answer_plan, IsReplyOf}
 use Rattle.inode_ops.proofs.Planned.{idle_planned, from_row}
@@ -92,7 +92,7 @@ module _ (t : Tables) (whole : Tree) (v : IsValid t) (same : Represents t whole)
   stays x r open_too is = by_case (x == root) refl (is_named whole x) refl
     where
       counted : IsTrue (not (r.refcount == 0))
-      counted = found_all (has_key by_inode x) (λ (y : Inode). not (y.refcount == 0)) t.inodes r named is
+      counted = find_passes_all (has_key by_inode x) (λ (y : Inode). not (y.refcount == 0)) t.inodes r named is
 
       by_case : (b : Bool) → (x == root) ≡ b → (d : Bool) → is_named whole x ≡ d → IsTrue (b || d || open_too)
       by_case true here d some = refl
@@ -112,7 +112,7 @@ module _ (t : Tables) (whole : Tree) (v : IsValid t) (same : Represents t whole)
   all_stay : (open_too : ℕ → Bool) (rows : List Inode) → AllByRecursion (λ r. inode_at t r.id ≡ Some r) rows → IsTrue (list_all (λ (r : Inode). r.id == root || is_named whole r.id || open_too r.id) rows)
   all_stay open_too [] there = refl
   all_stay open_too (r ∷ rs) there =
-      both (r.id == root || is_named whole r.id || open_too r.id) (list_all (λ (y : Inode). y.id == root || is_named whole y.id || open_too y.id) rs) (stays r.id r (open_too r.id) there.0) (all_stay open_too rs there.1)
+      and_from (r.id == root || is_named whole r.id || open_too r.id) (list_all (λ (y : Inode). y.id == root || is_named whole y.id || open_too y.id) rs) (stays r.id r (open_too r.id) there.0) (all_stay open_too rs there.1)
 
 -- ---- release
 
@@ -171,7 +171,7 @@ module _ (t : Tables) (whole : Tree) (pass number now : ℕ) (v : IsValid t) (sa
 pub all_kept : {X : Type 0} (p : X → Bool) (xs : List X) → IsTrue (list_all p xs) → filter p xs ≡ xs
 all_kept p [] all = refl
 all_kept p (x ∷ xs) all =
-    ap (λ b. cond b (x ∷ filter p xs) (filter p xs)) (first (p x) (list_all p xs) all) ∙ ap (λ ys. x ∷ ys) (all_kept p xs (second (p x) (list_all p xs) all))
+    ap (λ b. cond b (x ∷ filter p xs) (filter p xs)) (and_parts (p x) (list_all p xs) all).0 ∙ ap (λ ys. x ∷ ys) (all_kept p xs (and_parts (p x) (list_all p xs) all).1)
 
 all_map : {X Y : Type 0} (p : Y → Bool) (f : X → Y) (xs : List X) → list_all p (map f xs) ≡ list_all (λ x. p (f x)) xs
 all_map p f [] = refl
@@ -185,7 +185,7 @@ stays_left t whole pass v same named =
     let of_shape : ℕ × NodeShape → Bool = λ e. number_lives e.0 in
     let shaped : ℕ × Node → ℕ × NodeShape = λ e. (e.0, shape_of_node e.1) in
     let made : Inode → ℕ × NodeShape = λ r. (r.id, node_of_row t r) in
-    let rows : IsTrue (list_all (λ (r : Inode). number_lives r.id) t.inodes) = all_stay t whole v same named (is_open closed) t.inodes (self_found by_inode nat_cmp_total t.inodes v.ordered.inodes) in
+    let rows : IsTrue (list_all (λ (r : Inode). number_lives r.id) t.inodes) = all_stay t whole v same named (is_open closed) t.inodes (row_at_own by_inode nat_cmp_total t.inodes v.ordered.inodes) in
     sym (all_map of_shape shaped whole.nodes) ∙ ap (λ (s : TreeShape). list_all of_shape s.nodes) (sym same) ∙ all_map of_shape made t.inodes ∙ rows
 
 pub left_is : (whole : Tree) (pass now : ℕ) → IsTrue (keeps_rows whole pass ops.Leave) → effect whole pass ops.Leave now ≡ record whole { handles = filter (λ (h : ℕ × Handle). not (h.1.pass == pass)) whole.handles }

@@ -18,10 +18,10 @@ use Rattle.s3_rows.specs.Tables.{Tables, by_inode}
 use Rattle.s3_rows.specs.Batches.{after_change}
 use Rattle.s3_rows.specs.Selections.{inode_at}
 use Rattle.s3_rows.specs.Validity.{IsValid, HasUniqueNames}
-use Rattle.s3_rows.proofs.Replacing.{replaced_valid, all_put}
-use Rattle.s3_rows.proofs.Finding.{found_all}
 use Rattle.s3_rows.specs.Keyed.{has_key}
-use Rattle.s3_rows.proofs.Sorting.{row_at-put}
+use Rattle.row_lemmas.proofs.Tests.{find_passes_all}
+use Rattle.row_lemmas.proofs.Keyed.Put.{row_at-put, list_all-put}
+use Rattle.row_lemmas.proofs.ReplacedInode.{replaced_valid}
 use Rattle.tree_rows.specs.Attrs.{attr_of_row}
 use Rattle.tree_rows.specs.Shapes.{NodeShape, shape_of_node, node_of_row, Represents}
 use Rattle.tree_rows.proofs.Attributed.{attr_is}
@@ -58,8 +58,8 @@ idle t next drawn v same = record {
 replaced_named : (t : Tables) (r new : Inode) → inode_at t new.id ≡ Some r → new.refcount ≡ r.refcount → AreNamed t → AreNamed (after_change (changes.PutInode new) t)
 replaced_named t r new is count named =
     let has_name : Inode → Bool = λ x. not (x.refcount == 0) in
-    let own : IsTrue (has_name new) = ap (λ n. not (n == 0)) count ∙ found_all (has_key by_inode new.id) has_name t.inodes r named is in
-    all_put by_inode has_name new t.inodes own named
+    let own : IsTrue (has_name new) = ap (λ n. not (n == 0)) count ∙ find_passes_all (has_key by_inode new.id) has_name t.inodes r named is in
+    list_all-put by_inode has_name new t.inodes own named
 
 pub replaced : (t : Tables) (next : Tree) (drawn : ℕ) (r new : Inode) → inode_at t new.id ≡ Some r → new.refcount ≡ r.refcount → IsValid (after_change (changes.PutInode new) t)
     → Represents (after_change (changes.PutInode new) t) next → IsStep t (after_change (changes.PutInode new) t) next drawn

@@ -23,11 +23,8 @@ use Rattle.s3_rows.specs.Keyed.{has_key, rises, sorted_by}
 use Rattle.s3_rows.specs.Tables.{Tables, by_inode}
 use Rattle.s3_rows.specs.Selections.{inode_at, name_at, bytes_cmp, bytes_of_name, with_entry_name, named_entries, by_entry_name, rows_of}
 use Rattle.s3_rows.specs.Validity.{IsValid, finds_of_entry, has_inode, is_directory, is_regular, any_kind, have_one_name, differ}
-use Rattle.s3_rows.proofs.Passing.{both, first, second, all_pass}
-use Rattle.s3_rows.proofs.Sorting.{negated, count-sorted}
 use Rattle.tree_rows.specs.Shapes as shapes
 use Rattle.tree_rows.specs.Shapes.{ContentShape, NodeShape, TreeShape, shape_of_content, shape_of_node, node_of_row, Represents}
-use Rattle.tree_rows.proofs.Counting.{sum_by-map, sum_same, sum_swap, count_none, self_found, one_found}
 use Rattle.tree_rows.proofs.Listed.{named, is_in}
 use Rattle.tree_rows.proofs.Whole.{content_of_kind}
 use Rattle.ref_counts.specs.Plans.{IsPlanOf}
@@ -38,6 +35,12 @@ use Rattle.inode_ops.specs.Answers.{answer_plan}
 use Rattle.op_frames.specs.declared.reply.Reply.{Reply}
 use Rattle.s3_base.specs.declared.errors.Errno.{Errno}
 use Rattle.std.specs.Prelude.{Result, Ok}
+use Rattle.std.proofs.lemmas.Bool.{and_from, and_parts}
+use Rattle.row_lemmas.proofs.Tests.{list_all_weaker, false_from_not, is_eq-nat_cmp}
+use Rattle.row_lemmas.proofs.Sums.{sum_by-map, sum_by_agree, sum_by_comm, count_by_none, count_by_true}
+use Rattle.row_lemmas.proofs.Keyed.RowAt.{row_at_own}
+use Rattle.row_lemmas.proofs.Keyed.Count.{count_by-has_key_there}
+use Rattle.row_lemmas.proofs.Keyed.Sorted.{count_by-sorted_by}
 
 -- ---- over shapes
 
@@ -101,25 +104,19 @@ module _ (t : Tables) (whole : Tree) (same : Represents t whole) where
 abbrev always : {X : Type 0} → X → Bool
 always x = true
 
-count_always : {X : Type 0} (xs : List X) → count_by always xs ≡ length xs
-count_always [] = refl
-count_always {X} (x ∷ xs) =
-    let one : X → ℕ = λ y. 1 in
-    omega (arith, sum_by-cons one x xs, count_always xs)
-
 with_name : (c : Content) (found : Option Name) → IsTrue (is_some found)
     → option_map (λ (n : Name). let e : NamedEntry = record { row = c; name = n.name } in e) found ≡ Some (record { row = c; name = unwrap_or (option_map (λ r. r.name) found) [] })
 with_name c None there = absurd (cc there)
 with_name c (Some n) there = refl
 
 name_there : (t : Tables) (c : Content) → IsTrue (finds_of_entry t c) → IsTrue (is_some (name_at t c.name_id))
-name_there t c finds = second (has_inode is_directory t c.parent) (is_some (name_at t c.name_id)) (first (has_inode is_directory t c.parent && is_some (name_at t c.name_id)) (has_inode any_kind t c.inode) finds)
+name_there t c finds = (and_parts (has_inode is_directory t c.parent) (is_some (name_at t c.name_id)) (and_parts (has_inode is_directory t c.parent && is_some (name_at t c.name_id)) (has_inode any_kind t c.inode) finds).0).1
 
 -- the rows that a directory is listed with are its rows with their names
 listed : (t : Tables) (parent : ℕ) (cs : List Content) → IsTrue (list_all (finds_of_entry t) cs) → filter_map (with_entry_name t) (filter (is_in parent) cs) ≡ map (named t) (filter (is_in parent) cs)
 listed t parent [] finds = refl
 listed t parent (c ∷ cs) finds =
-    by_case (listed t parent cs (second (finds_of_entry t c) (list_all (finds_of_entry t) cs) finds)) (with_name c (name_at t c.name_id) (name_there t c (first (finds_of_entry t c) (list_all (finds_of_entry t) cs) finds))) (is_in parent c)
+    by_case (listed t parent cs (and_parts (finds_of_entry t c) (list_all (finds_of_entry t) cs) finds).1) (with_name c (name_at t c.name_id) (name_there t c (and_parts (finds_of_entry t c) (list_all (finds_of_entry t) cs) finds).0)) (is_in parent c)
   where
     by_case : filter_map (with_entry_name t) (filter (is_in parent) cs) ≡ map (named t) (filter (is_in parent) cs) → with_entry_name t c ≡ Some (named t c) → (b : Bool)
         → filter_map (with_entry_name t) (cond b (c ∷ filter (is_in parent) cs) (filter (is_in parent) cs)) ≡ map (named t) (cond b (c ∷ filter (is_in parent) cs) (filter (is_in parent) cs))
@@ -151,15 +148,15 @@ none_alike t parent c (x ∷ xs) here none = by_case (none_alike t parent c xs h
 -- no two of them have one name
 unlike_listed : (t : Tables) (parent : ℕ) (cs : List Content) → IsTrue (differ (have_one_name t) cs) → IsTrue (differ (λ a. has_key by_entry_name (by_entry_name.key a)) (map (named t) (filter (is_in parent) cs)))
 unlike_listed t parent [] unlike = refl
-unlike_listed t parent (c ∷ cs) unlike = by_case (unlike_listed t parent cs (second (not (list_any (have_one_name t c) cs)) (differ (have_one_name t) cs) unlike)) (is_in parent c) refl
+unlike_listed t parent (c ∷ cs) unlike = by_case (unlike_listed t parent cs (and_parts (not (list_any (have_one_name t c) cs)) (differ (have_one_name t) cs) unlike).1) (is_in parent c) refl
   where
     own : list_any (have_one_name t c) cs ≡ false
-    own = negated (list_any (have_one_name t c) cs) (first (not (list_any (have_one_name t c) cs)) (differ (have_one_name t) cs) unlike)
+    own = false_from_not (list_any (have_one_name t c) cs) (and_parts (not (list_any (have_one_name t c) cs)) (differ (have_one_name t) cs) unlike).0
 
     by_case : IsTrue (differ (λ a. has_key by_entry_name (by_entry_name.key a)) (map (named t) (filter (is_in parent) cs))) → (b : Bool) → is_in parent c ≡ b
         → IsTrue (differ (λ a. has_key by_entry_name (by_entry_name.key a)) (map (named t) (cond b (c ∷ filter (is_in parent) cs) (filter (is_in parent) cs))))
     by_case others true is =
-        both (not (list_any (has_key by_entry_name (bytes_of_name t c.name_id)) (map (named t) (filter (is_in parent) cs)))) (differ (λ a. has_key by_entry_name (by_entry_name.key a)) (map (named t) (filter (is_in parent) cs)))
+        and_from (not (list_any (has_key by_entry_name (bytes_of_name t c.name_id)) (map (named t) (filter (is_in parent) cs)))) (differ (λ a. has_key by_entry_name (by_entry_name.key a)) (map (named t) (filter (is_in parent) cs)))
         (ap not (none_alike t parent c cs (eqb-true c.parent parent is) own)) others
     by_case others false is = others
 
@@ -174,16 +171,6 @@ in_directory parent (c ∷ cs) =
     by_case others true = omega (arith, others)
     by_case others false = omega (arith, others)
 
--- two tests of equal numbers
-same_test : (a b : ℕ) → is_eq (nat_cmp a b) ≡ (a == b)
-same_test a b = by_case (nat_lt a b) refl (a == b) refl
-  where
-    by_case : (c : Bool) → nat_lt a b ≡ c → (d : Bool) → (a == b) ≡ d → is_eq (cond c Less (cond d Equal Greater)) ≡ d
-    by_case true less true equal = absurd (omega (arith, ltb-true a b less, eqb-true a b equal))
-    by_case true less false equal = refl
-    by_case false less true equal = refl
-    by_case false less false equal = refl
-
 module _ (t : Tables) (finds : IsTrue (list_all (finds_of_entry t) t.contents)) (unlike : IsTrue (differ (have_one_name t) t.contents)) (rise : IsTrue (rises by_inode t.inodes)) where
   -- a directory is listed with as many entries as it has rows
   entries_listed : (parent : ℕ) → length (shapes.entries_in t parent) ≡ count_by (is_in parent) t.contents
@@ -192,12 +179,12 @@ module _ (t : Tables) (finds : IsTrue (list_all (finds_of_entry t) t.contents)) 
       let found : List NamedEntry = map (named t) (filter (is_in parent) t.contents) in
       let any : NamedEntry → Bool = λ e. true in
       length-map (named_entries t parent) pair_of ∙ ap (λ es. length (sorted_by by_entry_name es)) (listed t parent t.contents finds)
-      ∙ sym (count_always (sorted_by by_entry_name found)) ∙ count-sorted by_entry_name nat_list_cmp_total any found (unlike_listed t parent t.contents unlike) ∙ count_always found
+      ∙ sym (count_by_true (sorted_by by_entry_name found)) ∙ count_by-sorted_by by_entry_name nat_list_cmp_total any found (unlike_listed t parent t.contents unlike) ∙ count_by_true found
       ∙ length-map (filter (is_in parent) t.contents) (named t) ∙ in_directory parent t.contents
 
   -- the parent of a row is a directory
   folder_of : (c : Content) → IsTrue (finds_of_entry t c) → IsTrue (has_inode is_directory t c.parent)
-  folder_of c found = first (has_inode is_directory t c.parent) _ (first _ (has_inode any_kind t c.inode) found)
+  folder_of c found = (and_parts (has_inode is_directory t c.parent) _ (and_parts _ (has_inode any_kind t c.inode) found).0).0
 
   no_parent : (r : Inode) → inode_at t r.id ≡ Some r → IsTrue (not (is_directory r.kind)) → (c : Content) → IsTrue (finds_of_entry t c) → IsTrue (not (is_in r.id c))
   no_parent r there other c found = by_case (c.parent == r.id) refl
@@ -207,14 +194,14 @@ module _ (t : Tables) (finds : IsTrue (list_all (finds_of_entry t) t.contents)) 
       by_case true is =
           let here : IsTrue (has_inode is_directory t r.id) = subst (λ p. IsTrue (has_inode is_directory t p)) (eqb-true c.parent r.id is) (folder_of c found) in
           let own : IsTrue (is_directory r.kind) = subst (λ (row : Option Inode). IsTrue (elim row [ Some x ↦ is_directory x.kind | None ↦ false ])) there here in
-          let clash : false ≡ true = sym (negated (is_directory r.kind) other) ∙ own in
+          let clash : false ≡ true = sym (false_from_not (is_directory r.kind) other) ∙ own in
           absurd (cc clash)
 
   of_row : (r : Inode) → inode_at t r.id ≡ Some r → entries_in_shape (node_of_row t r).content ≡ count_by (is_in r.id) t.contents
   of_row r there = by_kind r.kind refl
     where
       none : IsTrue (not (is_directory r.kind)) → 0 ≡ count_by (is_in r.id) t.contents
-      none other = sym (count_none (is_in r.id) t.contents (all_pass (finds_of_entry t) (λ c. not (is_in r.id c)) (no_parent r there other) t.contents finds))
+      none other = sym (count_by_none (is_in r.id) t.contents (list_all_weaker (finds_of_entry t) (λ c. not (is_in r.id c)) (no_parent r there other) t.contents finds))
 
       by_kind : (kind : Kind) → r.kind ≡ kind → entries_in_shape (content_of_kind t r kind) ≡ count_by (is_in r.id) t.contents
       by_kind kinds.Directory is = entries_listed r.id
@@ -230,8 +217,8 @@ module _ (t : Tables) (finds : IsTrue (list_all (finds_of_entry t) t.contents)) 
   once c found =
       let below : Inode → Bool = λ r. c.parent == r.id in
       let has : Inode → Bool = λ r. is_eq (nat_cmp c.parent r.id) in
-      let alike : below ≡ has = λ i r. sym (same_test c.parent r.id) i in
-      ap (λ (p : Inode → Bool). count_by p t.inodes) alike ∙ one_found by_inode nat_cmp_total c.parent t.inodes rise (parent_there (inode_at t c.parent) (folder_of c found))
+      let alike : below ≡ has = λ i r. sym (is_eq-nat_cmp c.parent r.id) i in
+      ap (λ (p : Inode → Bool). count_by p t.inodes) alike ∙ count_by-has_key_there by_inode nat_cmp_total c.parent t.inodes rise (parent_there (inode_at t c.parent) (folder_of c found))
     where
       parent_there : (row : Option Inode) → IsTrue (elim row [ Some r ↦ is_directory r.kind | None ↦ false ]) → IsTrue (is_some row)
       parent_there None is = absurd (cc is)
@@ -239,7 +226,7 @@ module _ (t : Tables) (finds : IsTrue (list_all (finds_of_entry t) t.contents)) 
 
   each_entry : (cs : List Content) → IsTrue (list_all (finds_of_entry t) cs) → AllByRecursion (λ c. sum_by (λ (r : Inode). cond (is_in r.id c) 1 0) t.inodes ≡ 1) cs
   each_entry [] found = tt
-  each_entry (c ∷ cs) found = (once c (first (finds_of_entry t c) (list_all (finds_of_entry t) cs) found), each_entry cs (second (finds_of_entry t c) (list_all (finds_of_entry t) cs) found))
+  each_entry (c ∷ cs) found = (once c (and_parts (finds_of_entry t c) (list_all (finds_of_entry t) cs) found).0, each_entry cs (and_parts (finds_of_entry t c) (list_all (finds_of_entry t) cs) found).1)
 
   entries_are_rows : (whole : Tree) → Represents t whole → entry_count whole ≡ length t.contents
   entries_are_rows whole same =
@@ -249,10 +236,10 @@ module _ (t : Tables) (finds : IsTrue (list_all (finds_of_entry t) t.contents)) 
       let in_all : Content → ℕ = λ c. sum_by (λ (r : Inode). cond (is_in r.id c) 1 0) t.inodes in
       let own : Content → ℕ = λ c. 1 in
       over_rows t whole same entries_in entries_in_shape entries_alike
-      ∙ sum_same by_shape counted t.inodes (each_row t.inodes (self_found by_inode nat_cmp_total t.inodes rise))
-      ∙ sum_swap one t.inodes t.contents
-      ∙ sum_same in_all own t.contents (each_entry t.contents finds)
-      ∙ count_always t.contents
+      ∙ sum_by_agree by_shape counted t.inodes (each_row t.inodes (row_at_own by_inode nat_cmp_total t.inodes rise))
+      ∙ sum_by_comm one t.inodes t.contents
+      ∙ sum_by_agree in_all own t.contents (each_entry t.contents finds)
+      ∙ count_by_true t.contents
 
 pub entries_are : (t : Tables) (whole : Tree) → IsValid t → Represents t whole → entry_count whole ≡ length (rows_of t tables.Contents)
 entries_are t whole v same = entries_are_rows t v.rows.entries v.tree.unlike v.ordered.inodes whole same ∙ sym (length-map t.contents rows.Content)

@@ -6,6 +6,7 @@ use Rattle.std.specs.Cmp.{tied_itself}
 use Rattle.std.specs.declared.cmp.Ordering.{Ordering}
 use Rattle.std.specs.declared.cmp.Ordering.TheVariants.{Less, Equal, Greater}
 use Rattle.std.specs.Ordering.{nat_cmp, is_lt}
+use Rattle.std.proofs.lemmas.Bool.{and_from, and_parts}
 use Rattle.s3_rows.specs.declared.table_rows.Row.{Row}
 use Rattle.s3_rows.specs.declared.table_rows.Row.TheVariants as rows
 use Rattle.s3_rows.specs.declared.table_rows.RowKey.{RowKey}
@@ -16,8 +17,8 @@ use Rattle.s3_rows.specs.Keyed.{Order, pair_cmp, is_past, rises}
 use Rattle.s3_rows.specs.Tables.{Tables, IsOrdered, by_inode, by_name, by_entry, by_spot, by_block, by_object, by_target, by_attr, by_slot}
 use Rattle.s3_rows.specs.Selections.{is_number_past, is_pair_past, is_row_past, rows_of}
 use Rattle.s3_rows.specs.Told.{key_of_row, rows_rise}
-use Rattle.s3_rows.proofs.Passing.{both, first, second, all_pass}
-use Rattle.s3_rows.proofs.Batched.{pair_cmp_total}
+use Rattle.row_lemmas.proofs.Tests.{list_all_weaker, less_from_is_lt}
+use Rattle.row_lemmas.proofs.Tables.{pair_cmp_total}
 use Rattle.inode_ops.proofs.Opened.{all_kept}
 
 -- ---- keys
@@ -39,11 +40,6 @@ past_is k (rows.Target r) = refl
 past_is k (rows.Attr r) = refl
 past_is k (rows.Slot r) = refl
 
-is_less : (c : Ordering) → IsTrue (is_lt c) → c ≡ Less
-is_less Less is = refl
-is_less Equal is = absurd (cc is)
-is_less Greater is = absurd (cc is)
-
 number_after : (k l m : ℕ) → IsTrue (nat_lt k l) → IsTrue (nat_lt l m) → IsTrue (nat_lt k m)
 number_after k l m p q = lt-ltb k m (omega (arith, ltb-true k l p, ltb-true l m q))
 
@@ -63,7 +59,7 @@ key_after (keys.Two k l) (keys.Two m o) (keys.One n) p q = absurd (cc q)
 key_after (keys.Two k l) keys.Start (keys.Two m n) p q = absurd (cc p)
 key_after (keys.Two k l) (keys.One o) (keys.Two m n) p q = absurd (cc p)
 key_after (keys.Two k l) (keys.Two o u) (keys.Two m n) p q =
-    ap is_lt (pair_cmp_total.trans (k, l) (o, u) (m, n) (is_less (pair_cmp (k, l) (o, u)) p) (is_less (pair_cmp (o, u) (m, n)) q))
+    ap is_lt (pair_cmp_total.trans (k, l) (o, u) (m, n) (less_from_is_lt (pair_cmp (k, l) (o, u)) p) (less_from_is_lt (pair_cmp (o, u) (m, n)) q))
 
 not_below_itself : (n : ℕ) → nat_lt n n ≡ false
 not_below_itself n = by_case (nat_lt n n) refl
@@ -97,10 +93,10 @@ head_passes p (y ∷ ys) rest x is = by_case (head_passes p ys rest x) (p y) ref
 
 pub rest_past : (k : RowKey) (xs rest : List Row) (x : Row) → IsTrue (rows_rise xs) → filter (is_row_past k) xs ≡ x ∷ rest → filter (is_row_past (key_of_row x)) xs ≡ rest
 rest_past k [] rest x rise is = absurd (cc is)
-rest_past k (y ∷ ys) rest x rise is = by_case (rest_past k ys rest x (second (list_all (is_row_past (key_of_row y)) ys) (rows_rise ys) rise)) (is_row_past k y) refl is
+rest_past k (y ∷ ys) rest x rise is = by_case (rest_past k ys rest x (and_parts (list_all (is_row_past (key_of_row y)) ys) (rows_rise ys) rise).1) (is_row_past k y) refl is
   where
     later : IsTrue (list_all (is_row_past (key_of_row y)) ys)
-    later = first (list_all (is_row_past (key_of_row y)) ys) (rows_rise ys) rise
+    later = (and_parts (list_all (is_row_past (key_of_row y)) ys) (rows_rise ys) rise).0
 
     by_case : (filter (is_row_past k) ys ≡ x ∷ rest → filter (is_row_past (key_of_row x)) ys ≡ rest) → (b : Bool) → is_row_past k y ≡ b → cond b (y ∷ filter (is_row_past k) ys) (filter (is_row_past k) ys) ≡ x ∷ rest
         → filter (is_row_past (key_of_row x)) (y ∷ ys) ≡ rest
@@ -110,7 +106,7 @@ rest_past k (y ∷ ys) rest x rise is = by_case (rest_past k ys rest x (second (
         ap (λ (z : Row). filter (is_row_past (key_of_row z)) (y ∷ ys)) (sym same)
         ∙ ap (λ b. cond b (y ∷ filter (is_row_past (key_of_row y)) ys) (filter (is_row_past (key_of_row y)) ys)) (row_not_past_itself y)
         ∙ all_kept (is_row_past (key_of_row y)) ys later
-        ∙ sym (all_kept (is_row_past k) ys (all_pass (is_row_past (key_of_row y)) (is_row_past k) (λ s past. row_after k y s own past) ys later))
+        ∙ sym (all_kept (is_row_past k) ys (list_all_weaker (is_row_past (key_of_row y)) (is_row_past k) (λ s past. row_after k y s own past) ys later))
         ∙ left
     by_case others false own there = before (is_row_past (key_of_row x) y) refl
       where
@@ -125,14 +121,14 @@ rest_past k (y ∷ ys) rest x rise is = by_case (rest_past k ys rest x (second (
 rise_made : {K R : Type 0} (o : Order K R) (make : R → Row) → ((r s : R) → is_past o (o.key r) s ≡ is_row_past (key_of_row (make r)) (make s)) → (xs : List R) → IsTrue (rises o xs) → IsTrue (rows_rise (map make xs))
 rise_made o make same [] rise = refl
 rise_made {K} {R} o make same (x ∷ xs) rise =
-    both (list_all (is_row_past (key_of_row (make x))) (map make xs)) (rows_rise (map make xs)) (all_after xs (first (list_all (is_past o (o.key x)) xs) (rises o xs) rise))
-    (rise_made o make same xs (second (list_all (is_past o (o.key x)) xs) (rises o xs) rise))
+    and_from (list_all (is_row_past (key_of_row (make x))) (map make xs)) (rows_rise (map make xs)) (all_after xs (and_parts (list_all (is_past o (o.key x)) xs) (rises o xs) rise).0)
+    (rise_made o make same xs (and_parts (list_all (is_past o (o.key x)) xs) (rises o xs) rise).1)
   where
     all_after : (ys : List R) → IsTrue (list_all (is_past o (o.key x)) ys) → IsTrue (list_all (is_row_past (key_of_row (make x))) (map make ys))
     all_after [] all = refl
     all_after (y ∷ ys) all =
-        both (is_row_past (key_of_row (make x)) (make y)) (list_all (is_row_past (key_of_row (make x))) (map make ys)) (sym (same x y) ∙ first (is_past o (o.key x) y) (list_all (is_past o (o.key x)) ys) all)
-        (all_after ys (second (is_past o (o.key x) y) (list_all (is_past o (o.key x)) ys) all))
+        and_from (is_row_past (key_of_row (make x)) (make y)) (list_all (is_row_past (key_of_row (make x))) (map make ys)) (sym (same x y) ∙ (and_parts (is_past o (o.key x) y) (list_all (is_past o (o.key x)) ys) all).0)
+        (all_after ys (and_parts (is_past o (o.key x) y) (list_all (is_past o (o.key x)) ys) all).1)
 
 lt_test : (a b : ℕ) → is_lt (nat_cmp a b) ≡ nat_lt a b
 lt_test a b = by_case (nat_lt a b) (a == b)

@@ -3,24 +3,24 @@ use Rattle.std.proofs.Common.{◌≡◌, ◌<◌, ◌+◌, ◌^◌, ℕ, List, B
 use Rattle.std.specs.Prelude.{IsTrue, ◌==◌, nat_lt, nat_le, option_map, unwrap_or}
 use Rattle.std.proofs.lemmas.List.Sums.{count_by-le-length}
 use Rattle.std.specs.Ordering.{is_eq}
+use Rattle.std.proofs.lemmas.Bool.{and_parts}
 use Rattle.op_frames.specs.declared.operation.Op.{Op}
 use Rattle.s3_rows.specs.Rows.{Name, Parameters}
 use Rattle.s3_rows.specs.Tables.{Tables}
 use Rattle.s3_rows.specs.Selections.{bytes_cmp, name_of_bytes}
 use Rattle.s3_rows.specs.Counts.{listed_name_count}
 use Rattle.s3_rows.specs.Validity.{IsValid, counts_name}
-use Rattle.s3_rows.proofs.Finding.{found_all}
-use Rattle.s3_rows.proofs.Passing.{first}
 use Rattle.ref_counts.specs.Names.{Raised, raised, raised_of, raised_row, new_row}
 use Rattle.plain_tree.specs.Classes.{name_used}
 use Rattle.plain_tree.specs.Tree.{Tree}
+use Rattle.row_lemmas.proofs.Tests.{find_passes_all}
 use Rattle.ref_counts.specs.Plans.{next_name_of, uses_of, IsWorn}
 
 module _ (t : Tables) (v : IsValid t) (few_names : next_name_of t < 2 ^ 62) (few_uses : uses_of t + 1 < 2 ^ 62) (name : List ℕ) where
   row_has_room : (n : Name) → name_of_bytes t name ≡ Some n → raised_row n ≡ None → ⊥
   row_has_room n there worn =
       let counted : IsTrue (n.refcount == listed_name_count t n.id) =
-      first (n.refcount == listed_name_count t n.id) (nat_le 1 n.refcount) (found_all (λ (r : Name). is_eq (bytes_cmp r.name name)) (counts_name t) t.names n v.counts.names there) in
+      (and_parts (n.refcount == listed_name_count t n.id) (nat_le 1 n.refcount) (find_passes_all (λ (r : Name). is_eq (bytes_cmp r.name name)) (counts_name t) t.names n v.counts.names there)).0 in
       let count : n.refcount ≡ listed_name_count t n.id = eqb-true n.refcount (listed_name_count t n.id) counted in
       let few : n.refcount + 1 < 2 ^ 62 = omega (arith, count, count_by-le-length (λ r. r.name_id == n.id) t.contents, count_by-le-length (λ r. r.name_id == n.id) t.attrs, few_uses) in
       let room : IsTrue (nat_lt (n.refcount + 1) (2 ^ 62)) = lt-ltb (n.refcount + 1) (2 ^ 62) few in

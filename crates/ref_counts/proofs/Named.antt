@@ -12,9 +12,9 @@ use Rattle.s3_rows.specs.Tables.{Tables, IsOrdered, by_name}
 use Rattle.s3_rows.specs.Batches.{after_change}
 use Rattle.s3_rows.specs.Selections.{name_at, name_of_bytes, bytes_cmp}
 use Rattle.s3_rows.specs.Told.{Told, IfTold}
-use Rattle.s3_rows.proofs.Finding.{finds_itself}
 use Rattle.s3_rows.specs.Validity.{HasUniqueNames, have_same_bytes}
-use Rattle.s3_rows.proofs.Sorting.{is_equal}
+use Rattle.row_lemmas.proofs.Tests.{equal_from_is_eq}
+use Rattle.row_lemmas.proofs.Keyed.RowAt.{row_at_from_find}
 use Rattle.ref_counts.specs.Names.{other_than, after_put, StaysUnique}
 use Rattle.ref_counts.proofs.Overlay.{kept, put_is_found, put_takes, without_takes}
 
@@ -44,7 +44,7 @@ has_bytes bytes n = is_eq (bytes_cmp n.name bytes)
 
 like : (bytes : List ℕ) (x y : Name) → IsTrue (has_bytes bytes x) → IsTrue (has_bytes bytes y) → IsTrue (have_same_bytes x y)
 like bytes x y one two =
-    ap is_eq (nat_list_cmp_total.congr x.name bytes y.name (is_equal (bytes_cmp x.name bytes) one) ∙ tied_back nat_list_cmp_total y.name bytes (is_equal (bytes_cmp y.name bytes) two))
+    ap is_eq (nat_list_cmp_total.congr x.name bytes y.name (equal_from_is_eq (bytes_cmp x.name bytes) one) ∙ tied_back nat_list_cmp_total y.name bytes (equal_from_is_eq (bytes_cmp y.name bytes) two))
 
 pub put_found : (t : Tables) (r : Name) (bytes : List ℕ) (found : Option Name) → found ≡ name_of_bytes t bytes → IsOrdered t → HasUniqueNames t → HasUniqueNames (after_change (changes.PutName r) t)
     → after_put r bytes found ≡ name_of_bytes (after_change (changes.PutName r) t) bytes
@@ -70,7 +70,7 @@ known : (t : Tables) (bytes : List ℕ) (id : ℕ) (r found : Option Name) → I
 known t bytes id r None ordered found is own = absurd (cc is)
 known t bytes id r (Some n) ordered found is own =
     let same : id ≡ n.id = cc is in
-    own ∙ ap (name_at t) same ∙ finds_itself by_name nat_cmp_total (has_bytes bytes) t.names n ordered.names found ∙ sym found
+    own ∙ ap (name_at t) same ∙ row_at_from_find by_name nat_cmp_total (has_bytes bytes) t.names n ordered.names found ∙ sym found
 
 pub row_is_known : (told after : Option Told) (bytes : List ℕ) (id : ℕ) (r : Option Name) → after ≡ told → IfTold told (λ t. Some id ≡ option_map (λ n. n.id) (name_of_bytes t bytes))
     → IfTold after (λ t. r ≡ name_at t id) → IfTold told (λ t. IsOrdered t → r ≡ name_of_bytes t bytes)

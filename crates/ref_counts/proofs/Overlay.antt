@@ -6,11 +6,11 @@ use Rattle.std.specs.Cmp.{IsTotalOrder}
 use Rattle.std.specs.declared.cmp.Ordering.{Ordering}
 use Rattle.std.specs.declared.cmp.Ordering.TheVariants.{Less, Equal, Greater}
 use Rattle.std.specs.Ordering.{is_eq, is_lt}
+use Rattle.std.proofs.lemmas.Bool.{and_from, and_parts}
 use Rattle.s3_rows.specs.Keyed.{Order, is_past, has_key, rises, put, without}
 use Rattle.s3_rows.specs.Validity.{differ}
-use Rattle.s3_rows.proofs.Passing.{both, first, second, all_pass}
-use Rattle.s3_rows.proofs.Placing.{past_both, past_same}
-use Rattle.s3_rows.proofs.Sorting.{negated}
+use Rattle.row_lemmas.proofs.Tests.{list_all_weaker, false_from_not}
+use Rattle.row_lemmas.proofs.Keyed.Rises.{is_past_trans, is_past_same}
 
 -- an option whose value has another key
 abbrev pub kept : {K R : Type 0} → Order K R → K → Option R → Option R
@@ -60,10 +60,10 @@ module _ {K R : Type 0} (o : Order K R) (total : IsTotalOrder o.compare) (alike 
         where
           own : (b : Bool) → q x ≡ b → cond b (Some x) (find q (put o r xs)) ≡ Some r
           own true is =
-              let none : list_any q (put o r xs) ≡ false = alone x (put o r xs) is (negated (list_any (alike x) (put o r xs)) (first (not (list_any (alike x) (put o r xs))) (differ alike (put o r xs)) apart)) in
+              let none : list_any q (put o r xs) ≡ false = alone x (put o r xs) is (false_from_not (list_any (alike x) (put o r xs)) (and_parts (not (list_any (alike x) (put o r xs))) (differ alike (put o r xs)) apart).0) in
               let clash : true ≡ false = sym any ∙ none in
               absurd (cc clash)
-          own false is = others (second (not (list_any (alike x) (put o r xs))) (differ alike (put o r xs)) apart)
+          own false is = others (and_parts (not (list_any (alike x) (put o r xs))) (differ alike (put o r xs)) apart).1
 
   no_row : (rows : List R) → list_any q rows ≡ false → find q rows ≡ None
   no_row [] none = refl
@@ -74,12 +74,12 @@ module _ {K R : Type 0} (o : Order K R) (total : IsTotalOrder o.compare) (alike 
       by_case others false is = others is
 
   no_other : (x : R) (xs : List R) → IsTrue (q x) → IsTrue (differ alike (x ∷ xs)) → find q xs ≡ None
-  no_other x xs passes unlike = no_row xs (alone x xs passes (negated (list_any (alike x) xs) (first (not (list_any (alike x) xs)) (differ alike xs) unlike)))
+  no_other x xs passes unlike = no_row xs (alone x xs passes (false_from_not (list_any (alike x) xs) (and_parts (not (list_any (alike x) xs)) (differ alike xs) unlike).0))
 
   -- rows past a key have other keys
   all_later : (k : K) (rows : List R) → IsTrue (list_all (is_past o k) rows) → kept o k (find q rows) ≡ find q rows
   all_later k [] past = refl
-  all_later k (x ∷ xs) past = by_case (all_later k xs (second (is_past o k x) (list_all (is_past o k) xs) past)) (q x)
+  all_later k (x ∷ xs) past = by_case (all_later k xs (and_parts (is_past o k x) (list_all (is_past o k) xs) past).1) (q x)
     where
       apart : (c : Ordering) → IsTrue (is_lt c) → cond (is_eq c) None (Some x) ≡ Some x
       apart Less is = refl
@@ -87,28 +87,28 @@ module _ {K R : Type 0} (o : Order K R) (total : IsTotalOrder o.compare) (alike 
       apart Greater is = absurd (cc is)
 
       by_case : kept o k (find q xs) ≡ find q xs → (b : Bool) → kept o k (cond b (Some x) (find q xs)) ≡ cond b (Some x) (find q xs)
-      by_case others true = apart (o.compare k (o.key x)) (first (is_past o k x) (list_all (is_past o k) xs) past)
+      by_case others true = apart (o.compare k (o.key x)) (and_parts (is_past o k x) (list_all (is_past o k) xs) past).0
       by_case others false = others
 
   -- a row that is put and does not pass takes the row of its key away
   pub put_takes : (r : R) (rows : List R) → q r ≡ false → IsTrue (rises o rows) → IsTrue (differ alike rows) → find q (put o r rows) ≡ kept o (o.key r) (find q rows)
   put_takes r [] fails rise unlike = ap (λ b. cond b (Some r) None) fails
   put_takes r (x ∷ xs) fails rise unlike =
-      by_case (put_takes r xs fails (second (list_all (is_past o (o.key x)) xs) (rises o xs) rise) (second (not (list_any (alike x) xs)) (differ alike xs) unlike)) (o.compare (o.key r) (o.key x)) refl
+      by_case (put_takes r xs fails (and_parts (list_all (is_past o (o.key x)) xs) (rises o xs) rise).1 (and_parts (not (list_any (alike x) xs)) (differ alike xs) unlike).1) (o.compare (o.key r) (o.key x)) refl
     where
       later : IsTrue (list_all (is_past o (o.key x)) xs)
-      later = first (list_all (is_past o (o.key x)) xs) (rises o xs) rise
+      later = (and_parts (list_all (is_past o (o.key x)) xs) (rises o xs) rise).0
 
       by_case : find q (put o r xs) ≡ kept o (o.key r) (find q xs) → (c : Ordering) → o.compare (o.key r) (o.key x) ≡ c
           → find q (elim c [ Less ↦ r ∷ x ∷ xs | Equal ↦ r ∷ xs | Greater ↦ x ∷ put o r xs ]) ≡ kept o (o.key r) (cond (q x) (Some x) (find q xs))
       by_case others Less is =
           ap (λ b. cond b (Some r) (find q (x ∷ xs))) fails
-          ∙ sym (all_later (o.key r) (x ∷ xs) (both (is_past o (o.key r) x) (list_all (is_past o (o.key r)) xs) (ap is_lt is) (all_pass (is_past o (o.key x)) (is_past o (o.key r)) (λ y. past_both o total (o.key r) (o.key x) y is) xs later)))
+          ∙ sym (all_later (o.key r) (x ∷ xs) (and_from (is_past o (o.key r) x) (list_all (is_past o (o.key r)) xs) (ap is_lt is) (list_all_weaker (is_past o (o.key x)) (is_past o (o.key r)) (λ y. is_past_trans o total (o.key r) (o.key x) y is) xs later)))
       by_case others Equal is = ap (λ b. cond b (Some r) (find q xs)) fails ∙ own (q x) refl
         where
           own : (b : Bool) → q x ≡ b → find q xs ≡ kept o (o.key r) (cond b (Some x) (find q xs))
           own true passes = no_other x xs passes unlike ∙ ap (λ c. cond (is_eq c) None (Some x)) (sym is)
-          own false passes = sym (all_later (o.key r) xs (all_pass (is_past o (o.key x)) (is_past o (o.key r)) (λ y. past_same o total (o.key r) (o.key x) y is) xs later))
+          own false passes = sym (all_later (o.key r) xs (list_all_weaker (is_past o (o.key x)) (is_past o (o.key r)) (λ y. is_past_same o total (o.key r) (o.key x) y is) xs later))
       by_case others Greater is = own (q x)
         where
           own : (b : Bool) → cond b (Some x) (find q (put o r xs)) ≡ kept o (o.key r) (cond b (Some x) (find q xs))
@@ -118,7 +118,7 @@ module _ {K R : Type 0} (o : Order K R) (total : IsTotalOrder o.compare) (alike 
   -- a delete takes the row of its key away
   pub without_takes : (k : K) (rows : List R) → IsTrue (differ alike rows) → find q (without o k rows) ≡ kept o k (find q rows)
   without_takes k [] unlike = refl
-  without_takes k (x ∷ xs) unlike = by_case (without_takes k xs (second (not (list_any (alike x) xs)) (differ alike xs) unlike)) (has_key o k x) refl (q x) refl
+  without_takes k (x ∷ xs) unlike = by_case (without_takes k xs (and_parts (not (list_any (alike x) xs)) (differ alike xs) unlike).1) (has_key o k x) refl (q x) refl
     where
       by_case : find q (without o k xs) ≡ kept o k (find q xs) → (b : Bool) → has_key o k x ≡ b → (d : Bool) → q x ≡ d
           → find q (cond (not b) (x ∷ without o k xs) (without o k xs)) ≡ kept o k (cond d (Some x) (find q xs))

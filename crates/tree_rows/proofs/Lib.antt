@@ -1,5 +1,4 @@
 pub mod Attributed
-pub mod Counting
 pub mod Lengths
 pub mod Listed
 pub mod Replaced

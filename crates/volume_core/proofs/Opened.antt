@@ -11,8 +11,7 @@ use Rattle.s3_rows.specs.Tables.{Tables, by_inode}
 use Rattle.s3_rows.specs.Selections.{inode_at}
 use Rattle.s3_rows.specs.Told.{Told, one_more, with_batch}
 use Rattle.s3_rows.specs.Validity.{IsValid, root, is_directory, is_regular, parent_of, leads_to_root, is_below_root}
-use Rattle.s3_rows.proofs.Finding.{found_all}
-use Rattle.s3_rows.proofs.Passing.{all_pass}
+use Rattle.row_lemmas.proofs.Tests.{list_all_weaker, find_passes_all}
 use Rattle.tree_rows.specs.Shapes.{shape_of_tables, Represents}
 use Rattle.ref_counts.specs.Handles.{no_handles}
 use Rattle.volume_core.specs.declared.row_core.RowCore.{RowCore}
@@ -68,7 +67,7 @@ module _ (t : Tables) (v : IsValid t) where
       is_rooted = v.tree.is_rooted;
       root_is_unnamed = v.tree.root_is_unnamed;
       named_once = v.tree.named_once;
-      below_root = all_pass (is_below_root t) (is_below_root served) (λ r below. ap (λ b. not (is_directory r.kind) || b) (leads_same t (Some served_params) (length t.inodes) r.id) ∙ below) t.inodes v.tree.below_root;
+      below_root = list_all_weaker (is_below_root t) (is_below_root served) (λ r below. ap (λ b. not (is_directory r.kind) || b) (leads_same t (Some served_params) (length t.inodes) r.id) ∙ below) t.inodes v.tree.below_root;
       legal = v.tree.legal;
       unlike = v.tree.unlike;
       keeps_lost_and_found = v.tree.keeps_lost_and_found;
@@ -112,7 +111,7 @@ empty_files t whole same empty = record { bytes = each; fresh = λ x above. refl
     by_kind x b r there true regular is =
         let file = file_there t whole same x r there regular in
         let own : file.0 ≡ b = cc (sym file.1 ∙ is) in
-        let test : IsTrue (not (is_regular r.kind) || r.size == 0) = found_all (has_key by_inode x) (λ y. not (is_regular y.kind) || y.size == 0) t.inodes r empty there in
+        let test : IsTrue (not (is_regular r.kind) || r.size == 0) = find_passes_all (has_key by_inode x) (λ y. not (is_regular y.kind) || y.size == 0) t.inodes r empty there in
         let none : r.size ≡ 0 = size_of r true regular (ap (λ k. not k || r.size == 0) (sym regular) ∙ test) refl in
         no_bytes file.0 (file.2 ∙ none) ∙ own
     by_kind x b r there false other is =

@@ -20,8 +20,8 @@ use Rattle.s3_rows.specs.Batches.{after_change, tables_after}
 use Rattle.s3_rows.specs.Selections.{inode_at}
 use Rattle.s3_rows.specs.Told.{Told, IfTold, with_batch}
 use Rattle.s3_rows.specs.Validity.{is_regular}
-use Rattle.s3_rows.proofs.Finding.{found_all}
-use Rattle.s3_rows.proofs.Replacing.{resized_valid}
+use Rattle.row_lemmas.proofs.Tests.{find_passes_all}
+use Rattle.row_lemmas.proofs.ReplacedInode.{resized_valid}
 use Rattle.tree_rows.specs.Attrs.{attr_of_row}
 use Rattle.tree_rows.specs.Shapes.{ContentShape, Regular, NodeShape, shape_of_content, node_of_row, Represents}
 use Rattle.tree_rows.proofs.Attributed.{attr_is}
@@ -90,7 +90,7 @@ module _ {K : Type 0} (told : K → Option Told) (before after : RowCore K) (who
 
   below : r.id < whole.next_inode
   below =
-      let in_use : IsTrue (nat_lt r.id s.served.valid.params.next_inode) = found_all (has_key by_inode r.id) (λ y. nat_lt y.id s.served.valid.params.next_inode) t.inodes r s.served.valid.free.inodes there in
+      let in_use : IsTrue (nat_lt r.id s.served.valid.params.next_inode) = find_passes_all (has_key by_inode r.id) (λ y. nat_lt y.id s.served.valid.params.next_inode) t.inodes r s.served.valid.free.inodes there in
       let number : whole.next_inode ≡ s.served.valid.params.next_inode = next_inode-row t whole s.served.valid.params s.represents s.served.valid.is_made in
       omega (arith, ltb-true r.id s.served.valid.params.next_inode in_use, number)
 

@@ -2,7 +2,7 @@ use Rattle.std.proofs.Common.{◌≡◌, ◌+◌, List, [], ◌∷◌, drop, sym
 use Rattle.s3_rows.specs.declared.change.Change.{Change}
 use Rattle.s3_rows.specs.Tables.{Tables}
 use Rattle.s3_rows.specs.Batches.{after_change, tables_after}
-use Rattle.s3_rows.proofs.Batched.{ordered}
+use Rattle.row_lemmas.proofs.Tables.{IsOrdered-tables_after}
 use Rattle.ref_counts.specs.Names.{StaysUnique}
 use Rattle.ref_counts.proofs.Named.{one_more, unique_now}
 use Rattle.ref_counts.proofs.names.found_after.Goals as goal
@@ -17,7 +17,7 @@ loop-change-preserved c t is in_order unique =
     let stays : StaysUnique (item ∷ rest) u = subst (λ cs. StaysUnique cs u) here old.3 in (
       after_change item u,
       c.in_ok-found.ensures u old.1 old.2 stays.0 (unique_now rest (after_change item u) stays.1),
-      ordered (item ∷ []) u old.2,
+      IsOrdered-tables_after (item ∷ []) u old.2,
       stays.1,
       ap (λ cs. tables_after cs u) (sym here) ∙ old.4,
     )
