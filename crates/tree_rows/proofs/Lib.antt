@@ -4,4 +4,5 @@ pub mod Listed
 pub mod Replaced
 pub mod Rooted
 pub mod Shaped
+pub mod Validity
 pub mod Whole

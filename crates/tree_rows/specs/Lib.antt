@@ -1,3 +1,4 @@
 pub mod Attrs
 pub mod Contents
+pub mod Premises
 pub mod Shapes

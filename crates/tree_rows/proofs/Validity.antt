@@ -1,0 +1,7 @@
+-- Tables that represent a well-formed tree are valid, part by part.
+pub mod Each
+pub mod Entries
+pub mod Inodes
+pub mod Names
+pub mod Steps
+pub mod Tables
