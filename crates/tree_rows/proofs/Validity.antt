@@ -3,5 +3,6 @@ pub mod Each
 pub mod Entries
 pub mod Inodes
 pub mod Names
+pub mod Premises
 pub mod Steps
 pub mod Tables

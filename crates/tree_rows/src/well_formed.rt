@@ -11,3 +11,8 @@ ghost use Rattle.tree_rows.specs.Shapes.{Represents};
 pub fn valid_from_a_well_formed_tree()
     ensures { (t : Tables) (whole : Tree) → HasPremises t → Represents t whole → IsWellFormed whole → IsValid t }
 {}
+
+/// And valid tables have all of this, so that the tables of a well-formed tree are valid exactly where they have it.
+pub fn valid_tables_have_the_premises()
+    ensures { (t : Tables) → IsValid t → HasPremises t }
+{}
