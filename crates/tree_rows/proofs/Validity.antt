@@ -1,4 +1,5 @@
 -- Tables that represent a well-formed tree are valid, part by part.
+pub mod Apart
 pub mod Each
 pub mod Entries
 pub mod Inodes

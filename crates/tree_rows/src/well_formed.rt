@@ -1,8 +1,11 @@
+ghost use Rattle.std.specs.Prelude.{IsTrue};
+ghost use Rattle.std.specs.List.{list_all};
 ghost use Rattle.plain_tree.specs.Tree.{Tree};
 ghost use Rattle.plain_tree.specs.WellFormed.{IsWellFormed};
-ghost use Rattle.s3_rows.specs.Tables.{Tables};
-ghost use Rattle.s3_rows.specs.Validity.{IsValid};
-ghost use Rattle.tree_rows.specs.Premises.{HasPremises};
+ghost use Rattle.s3_rows.specs.Keyed.{rises};
+ghost use Rattle.s3_rows.specs.Tables.{Tables, by_entry};
+ghost use Rattle.s3_rows.specs.Validity.{IsValid, HasUniqueNames, differ, have_one_name};
+ghost use Rattle.tree_rows.specs.Premises.{HasPremises, finds_directory_and_name};
 ghost use Rattle.tree_rows.specs.Shapes.{Represents};
 
 /// Tables that represent a well-formed tree are valid where they are in order, no directory has two entries of one name, the
@@ -15,4 +18,10 @@ pub fn valid_from_a_well_formed_tree()
 /// And valid tables have all of this, so that the tables of a well-formed tree are valid exactly where they have it.
 pub fn valid_tables_have_the_premises()
     ensures { (t : Tables) → IsValid t → HasPremises t }
+{}
+
+/// Where no two name rows have the same bytes, no directory has two entries of one name.
+pub fn unique_names_are_apart_in_directories()
+    ensures { (t : Tables) → HasUniqueNames t → IsTrue (rises by_entry t.contents) → IsTrue (list_all (finds_directory_and_name t) t.contents)
+        → IsTrue (differ (have_one_name t) t.contents) }
 {}
