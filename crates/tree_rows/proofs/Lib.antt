@@ -5,4 +5,5 @@ pub mod Replaced
 pub mod Rooted
 pub mod Shaped
 pub mod Validity
+pub mod WellFormed
 pub mod Whole

@@ -1,13 +1,18 @@
--- What tables need beside a well-formed tree that they represent to be valid.
-use Rattle.std.specs.Prelude.{ℕ, ◌==◌, length, Bool, true, not, ◌&&◌, nat_lt, nat_le, IsTrue, Option, None, Some, is_some}
+-- What tables need beside a well-formed tree that they represent to be valid, and what valid tables need for their tree
+-- to be well formed.
+use Rattle.std.specs.Prelude.{ℕ, ◌==◌, ◌^◌, ◌≤◌, length, All, Bool, true, not, ◌&&◌, ◌||◌, nat_lt, nat_le, IsTrue, Option, None, Some, is_some}
 use Rattle.std.specs.List.{list_all}
 use Rattle.std.specs.Option.{ForSome}
 use Rattle.s3_base.specs.declared.node_kind.Kind.{Kind}
 use Rattle.s3_base.specs.declared.node_kind.Kind.TheVariants as kinds
-use Rattle.s3_rows.specs.Rows.{Inode, Content, InodeBlock, Target, Parameters}
+use Rattle.plain_tree.specs.Tree.{Tree, node_at}
+use Rattle.plain_tree.specs.Entries.{is_open}
+use Rattle.plain_tree.specs.Numbers.{HandlesInOrder}
+use Rattle.plain_tree.specs.WellFormed.{is_file}
+use Rattle.s3_rows.specs.Rows.{Inode, Content, InodeBlock, Target, Parameters, IsInode, IsName, IsContent, IsInodeBlock, IsBlock, IsObject, IsTarget, IsAttr, IsSlot, IsParameters}
 use Rattle.s3_rows.specs.Tables.{Tables, IsOrdered}
 use Rattle.s3_rows.specs.Selections.{name_at, block_at, target_at}
-use Rattle.s3_rows.specs.Validity.{is_directory, is_link, has_inode, finds_of_attr, differ, have_one_name, HasExactCounts, HasDistinctBlocks, is_in_file, have_one_spot}
+use Rattle.s3_rows.specs.Validity.{is_directory, is_regular, is_link, has_inode, finds_of_attr, differ, have_one_name, HasExactCounts, HasDistinctBlocks, is_in_file, have_one_spot}
 
 -- ---- rows
 
@@ -69,3 +74,33 @@ pub record HasPremises (t : Tables) : Type 0 where
   pub blocks : ForSome t.params (HasDistinctBlocks t)
   pub sizes : ForSome t.params (FitsSizes t)
   pub free : ForSome t.params (HasFreeIds t)
+
+-- ---- the way back
+
+-- parameters and rows keep their ranges
+pub record HasRanges (t : Tables) : Type 0 where
+  pub params : ForSome t.params IsParameters
+  pub inodes : All IsInode t.inodes
+  pub names : All IsName t.names
+  pub contents : All IsContent t.contents
+  pub inode_blocks : All IsInodeBlock t.inode_blocks
+  pub blocks : All IsBlock t.blocks
+  pub objects : All IsObject t.objects
+  pub targets : All IsTarget t.targets
+  pub attrs : All IsAttr t.attrs
+  pub slots : All IsSlot t.slots
+
+-- an inode that no entry names is a regular file
+abbrev pub is_named_or_regular : Inode → Bool
+is_named_or_regular r = not (r.refcount == 0) || is_regular r.kind
+
+-- and some handle is open on it
+abbrev pub is_named_or_open : Tree → Inode → Bool
+is_named_or_open whole r = not (r.refcount == 0) || is_open whole r.id
+
+-- the handles of a tree are in order, on regular files that are there, and one is on each file that no entry names
+pub record HasItsHandles (t : Tables) (whole : Tree) : Type 0 where
+  pub order : HandlesInOrder whole
+  pub next : whole.next_handle ≤ 2 ^ 62
+  pub files : (inode : ℕ) → IsTrue (is_open whole inode) → IsTrue (is_file (node_at whole inode))
+  pub nameless : IsTrue (list_all (is_named_or_open whole) t.inodes)

@@ -1,11 +1,11 @@
 ghost use Rattle.std.specs.Prelude.{IsTrue};
 ghost use Rattle.std.specs.List.{list_all};
 ghost use Rattle.plain_tree.specs.Tree.{Tree};
-ghost use Rattle.plain_tree.specs.WellFormed.{IsWellFormed};
+ghost use Rattle.plain_tree.specs.WellFormed.{IsWellFormed, HasTimes};
 ghost use Rattle.s3_rows.specs.Keyed.{rises};
 ghost use Rattle.s3_rows.specs.Tables.{Tables, by_entry};
 ghost use Rattle.s3_rows.specs.Validity.{IsValid, HasUniqueNames, differ, have_one_name};
-ghost use Rattle.tree_rows.specs.Premises.{HasPremises, finds_directory_and_name};
+ghost use Rattle.tree_rows.specs.Premises.{HasPremises, HasRanges, HasItsHandles, finds_directory_and_name, is_named_or_regular};
 ghost use Rattle.tree_rows.specs.Shapes.{Represents};
 
 /// Tables that represent a well-formed tree are valid where they are in order, no directory has two entries of one name, the
@@ -24,4 +24,12 @@ pub fn valid_tables_have_the_premises()
 pub fn unique_names_are_apart_in_directories()
     ensures { (t : Tables) → HasUniqueNames t → IsTrue (rises by_entry t.contents) → IsTrue (list_all (finds_directory_and_name t) t.contents)
         → IsTrue (differ (have_one_name t) t.contents) }
+{}
+
+/// A tree that valid tables represent is well formed where the rows keep their ranges, inodes that no entry names
+/// are regular files, and the tree's handles are in order, on regular files, and on each file that no entry names.
+pub fn valid_tables_have_a_well_formed_tree()
+    ensures well_formed { (t : Tables) (whole : Tree) → IsValid t → HasRanges t → IsTrue (list_all is_named_or_regular t.inodes) → Represents t whole
+        → HasItsHandles t whole → IsWellFormed whole }
+    ensures times { (t : Tables) (whole : Tree) → HasRanges t → Represents t whole → HasTimes whole }
 {}

@@ -1,0 +1,4 @@
+-- The tree of valid tables is well formed, part by part.
+pub mod Listed
+pub mod Rows
+pub mod Tree
