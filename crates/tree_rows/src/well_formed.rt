@@ -1,4 +1,4 @@
-ghost use Rattle.std.specs.Prelude.{IsTrue};
+ghost use Rattle.std.specs.Prelude.{◌≡◌, ◌==◌, [], not, IsTrue};
 ghost use Rattle.std.specs.List.{list_all};
 ghost use Rattle.plain_tree.specs.Tree.{Tree};
 ghost use Rattle.plain_tree.specs.WellFormed.{IsWellFormed, HasTimes};
@@ -32,4 +32,10 @@ pub fn valid_tables_have_a_well_formed_tree()
     ensures well_formed { (t : Tables) (whole : Tree) → IsValid t → HasRanges t → IsTrue (list_all is_named_or_regular t.inodes) → Represents t whole
         → HasItsHandles t whole → IsWellFormed whole }
     ensures times { (t : Tables) (whole : Tree) → HasRanges t → Represents t whole → HasTimes whole }
+{}
+
+/// So a tree without handles is well formed where each inode of such tables is named: what opening finds.
+pub fn named_tables_open_as_a_well_formed_tree()
+    ensures { (t : Tables) (whole : Tree) → IsValid t → HasRanges t → IsTrue (list_all (λ r. not (r.refcount == 0)) t.inodes) → Represents t whole
+        → whole.handles ≡ [] → whole.next_handle ≡ 1 → IsWellFormed whole }
 {}
