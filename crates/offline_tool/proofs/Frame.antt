@@ -5,7 +5,7 @@ use Rattle.std.proofs.lemmas.Bool.{cases_lt}
 use Rattle.std.proofs.lemmas.List.{length-append, length-take, length-drop, take-append-le, take-take}
 use borrow.Rule.Slice.PartMut.{put_mid, post_of}
 use Rattle.s3_base.specs.Stream.{Stream, advanced}
-use Rattle.op_frames.specs.Frames.{said_length}
+use Rattle.frame_fields.specs.Frames.{said_length}
 use Rattle.offline_tool.specs.Reading.{FillsFront, TakesFrame}
 use Rattle.offline_tool.proofs.Streams.{advanced-advanced, length-taken, grown}
 

@@ -5,13 +5,14 @@ use Rattle.std.proofs.lemmas.Bool.{and_parts}
 use Rattle.std.proofs.lemmas.Nat.{from_be_bytes-to_be_bytes_4}
 use Rattle.std.proofs.lemmas.List.{length-append, length-take, length-drop, take-append-drop, take-take, take_at, take_all, drop-take, nil_from_length}
 use Rattle.s3_base.specs.Stream.{Stream, advanced}
-use Rattle.op_frames.specs.declared.fault.FrameFault.{FrameFault}
-use Rattle.op_frames.specs.declared.fault.FrameFault.TheVariants as faults
+use Rattle.frame_fields.specs.declared.fault.FrameFault.{FrameFault}
+use Rattle.frame_fields.specs.declared.fault.FrameFault.TheVariants as faults
 use Rattle.op_frames.specs.declared.operation.Op.{Op}
 use Rattle.op_frames.specs.declared.operation.Step.{Step}
 use Rattle.op_frames.specs.declared.operation.Step.TheVariants.{Call, End}
-use Rattle.op_frames.specs.Operations.{pass_field, time_field, op_field, step_field, is_op}
-use Rattle.op_frames.specs.Frames.{framed, said_length, EndsInside, StandsInFront}
+use Rattle.frame_fields.specs.Fields.{pass_field, time_field}
+use Rattle.op_frames.specs.Operations.{op_field, step_field, is_op}
+use Rattle.frame_fields.specs.Frames.{framed, said_length, EndsInside, StandsInFront}
 use Rattle.op_frames.specs.Replay.{Request, Refused, ended, with_call, replay_at, input_limit, Replays, ReplaysStep}
 use Rattle.offline_tool.specs.declared.reader.Next.{Next}
 use Rattle.offline_tool.specs.Input.{input_left, replay_left}

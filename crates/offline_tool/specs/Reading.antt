@@ -4,7 +4,7 @@ use Rattle.s3_base.specs.Stream.{Stream, advanced}
 use Rattle.op_frames.specs.declared.operation.Step.{Step}
 use Rattle.op_frames.specs.declared.operation.Step.TheVariants.{Call, End}
 use Rattle.op_frames.specs.Operations.{is_op}
-use Rattle.op_frames.specs.Frames.{said_length}
+use Rattle.frame_fields.specs.Frames.{said_length}
 use Rattle.op_frames.specs.Replay.{Ended, Refused, ended, with_call, input_limit}
 use Rattle.offline_tool.specs.Input.{replay_left}
 use Rattle.offline_tool.specs.declared.reader.Next.{Next}

@@ -2,7 +2,7 @@
 ghost use Rattle.std.specs.Prelude.{◌≡◌, ◌+◌, ◌-◌, ◌<◌, ◌≤◌, ◌^◌, ℕ, List, min, take, length, Some, IsTrue, IfOk, OnErr, is_err};
 ghost use Rattle.s3_base.specs.Faults.{HasCause, HasRisen};
 ghost use Rattle.s3_base.specs.Stream.{Stream};
-ghost use Rattle.op_frames.specs.Frames as frames;
+ghost use Rattle.frame_fields.specs.Frames as frames;
 ghost use Rattle.offline_tool.specs.Reading.{FillsFront, TakesFrame};
 
 use s3_base::{Failed, Source};

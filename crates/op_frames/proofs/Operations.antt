@@ -1,49 +1,22 @@
 -- The laws of the operations and of the steps of a replay. Each shape of fields has a law, and each operation its line three
 -- times: its code and fields, its place in the row of codes, and its spelling.
-use Rattle.std.proofs.Common.{◌≡◌, ℕ, ◌+◌, ◌-◌, ◌^◌, ◌≤◌, true, ◌&&◌, ◌||◌, cond, eqb, ltb, leb, [], ◌∷◌, length, Ok, refl, sym, ap, ap₂, subst, ◌∙◌, arith}
+use Rattle.std.proofs.Common.{◌≡◌, ℕ, ◌≤◌, true, ◌&&◌, ◌||◌, cond, eqb, ltb, leb, length, refl, sym, ◌∙◌, arith}
 use Rattle.std.proofs.Math.Bool.{or_comm}
-use Rattle.std.proofs.lemmas.Bool.{and_parts, eqb-true, eqb-false, ltb-true, leb-true}
+use Rattle.std.proofs.lemmas.Bool.{and_parts, eqb-true, eqb-false, leb-true}
 use Rattle.op_frames.specs.declared.operation.Op.{Op}
 use Rattle.op_frames.specs.declared.operation.Op.TheVariants.{Lookup, Getattr, Chmod, Chown, Utimes, Truncate, Mkdir, Create, Unlink, Rmdir, Rename, Link, Symlink, Readlink, Open, Release, Read, Write, Fsync, Readdir, Statfs, Setxattr, Getxattr, Listxattr, Removexattr, CopyTree, LockTree, RemoveTree, FlushCache, UploadMeta, CacheSize, Leave, Unmount}
 use Rattle.op_frames.specs.declared.operation.SetFlag.{SetFlag}
 use Rattle.op_frames.specs.declared.operation.SetFlag.TheVariants as flags
 use Rattle.op_frames.specs.declared.operation.Step.{Step}
 use Rattle.op_frames.specs.declared.operation.Step.TheVariants.{Call, End}
-use Rattle.op_frames.specs.Format.{Format, byte, ◌▸◌, made, always, between}
-use Rattle.op_frames.specs.Operations.{u16_field, u32_field, u64_field, name_field, data_length_field, data_field, pass_field, time_field, set_flag_code, set_flag_of, set_flag_field, lookup_fields, getattr_fields, chmod_fields, chown_fields, utimes_fields, create_fields, rename_fields, link_fields, symlink_fields, read_fields, write_fields, readdir_fields, setxattr_fields, cache_size_fields, is_operation, operation_field, op_spelling, is_op, op_to_8, op_to_16, op_to_24, op_to_33, op_behind, op_field, is_step_kind, kind_field, call_fields, step_spelling, is_step, step_behind, step_field}
-use Rattle.op_frames.proofs.Within.{cond_has, stand, Within-then, stayed}
-use Rattle.op_frames.proofs.Formats.{On-then, Goes-then, behind, with_behind, Took, IsFormat, byte_is, number16_is, number32_is, number64_is, counted_is, then_is}
-use Rattle.op_frames.proofs.Tagged.{IsCase, Reads, only_case, or_case, fewer_codes, first_of_row, last_of_row, rows, Written, write_case, tagged_is}
+use Rattle.frame_fields.specs.Format.{Format, between}
+use Rattle.op_frames.specs.Operations.{set_flag_code, set_flag_of, set_flag_field, lookup_fields, getattr_fields, chmod_fields, chown_fields, utimes_fields, create_fields, rename_fields, link_fields, symlink_fields, read_fields, write_fields, readdir_fields, setxattr_fields, cache_size_fields, is_operation, operation_field, op_spelling, is_op, op_to_8, op_to_16, op_to_24, op_to_33, op_behind, op_field, is_step_kind, kind_field, call_fields, step_spelling, is_step, step_behind, step_field}
+use Rattle.frame_fields.proofs.Within.{cond_has}
+use Rattle.frame_fields.proofs.Formats.{IsFormat, coded_is, nothing, nothing_is, ◌then◌}
+use Rattle.frame_fields.proofs.FieldLemmas.{u16_is, u32_is, u64_is, pass_is, time_is, name_is, data_is}
+use Rattle.frame_fields.proofs.Tagged.{IsCase, Reads, only_case, or_case, fewer_codes, first_of_row, last_of_row, rows, Written, write_case, tagged_is}
 
--- ---- fields
-
-u16_is : IsFormat u16_field 2
-unfolding u16_field
-u16_is = number16_is always
-
-u32_is : IsFormat u32_field 4
-unfolding u32_field
-u32_is = number32_is always
-
-u64_is : IsFormat u64_field 8
-unfolding u64_field
-u64_is = number64_is always
-
-pass_is : IsFormat pass_field 8
-unfolding pass_field
-pass_is = number64_is (between 1 (2 ^ 62 - 1))
-
-time_is : IsFormat time_field 8
-unfolding time_field
-time_is = number64_is (between 0 (2 ^ 62 - 1))
-
-name_is : IsFormat name_field 65537
-unfolding name_field u16_field
-name_is = counted_is u16_field 2 65535 u16_is (λ n h. let lt = ltb-true _ _ (and_parts (ltb n 65536) true h).0 in omega (arith, lt))
-
-data_is : IsFormat data_field 131076
-unfolding data_field data_length_field
-data_is = counted_is data_length_field 4 131072 (number32_is (between 0 131072)) (λ n h. leb-true n 131072 (and_parts (leb 0 n) (leb n 131072) (and_parts (ltb n (2 ^ 32)) (between 0 131072 n) h).1).1)
+-- ---- which attributes may be set
 
 -- the byte of a flag, and back
 flag_again : (flag : SetFlag) → set_flag_of (set_flag_code flag) ≡ flag
@@ -66,49 +39,9 @@ flag_back code le =
     let more : code ≡ 1 → ⊥ = eqb-false code 1 k in
     omega (arith, some, more, le)))
 
-at_most_two : (code : ℕ) → (ltb code 256 && between 0 2 code) ≡ true → code ≤ 2
-at_most_two code h = leb-true code 2 (and_parts (leb 0 code) (leb code 2) (and_parts (ltb code 256) (between 0 2 code) h).1).1
-
 flag_is : IsFormat set_flag_field 1
 unfolding set_flag_field
-flag_is =
-    let is = byte_is (between 0 2) in
-    let f : Format ℕ = byte (between 0 2) in
-    record {
-      takes = λ r fits. On-then (λ x. (f.allows x.0 ≡ true) × Took (f.spell x.0) r x.1) (λ x. (true ≡ true) × Took (set_flag_code x.0 ∷ []) r x.1) (f.read r) (λ x. Ok (set_flag_of x.0, x.1)) (is.takes r fits)
-          (λ x h. (refl, subst (λ (code : ℕ). Took (code ∷ []) r x.1) (sym (flag_back x.0 (at_most_two x.0 h.0))) h.1));
-      onward = λ r. On-then (λ x. r.place ≤ x.1.place) (λ x. r.place ≤ x.1.place) (f.read r) (λ x. Ok (set_flag_of x.0, x.1)) (is.onward r) (λ x h. h);
-      within = λ r. Within-then r (f.read r) (λ x. Ok (set_flag_of x.0, x.1)) (is.within r) (λ x m. stayed x.1);
-      again = λ flag place room rest h le.
-          ap (made set_flag_of) (is.again (set_flag_code flag) place room rest (flag_allowed flag) le)
-          ∙ ap (λ (x : SetFlag). Ok (x, stand (place + 1) (room - 1) rest)) (flag_again flag);
-      more = λ rest r. Goes-then (with_behind rest) (with_behind rest) (f.read r) (f.read (behind rest r)) (λ x. Ok (set_flag_of x.0, x.1)) (λ x. Ok (set_flag_of x.0, x.1)) (is.more rest r) (λ x. refl);
-      bounded = λ flag h. omega arith;
-    }
-
--- no fields
-abbrev nothing : Format (Unit {0})
-nothing = record { spell = λ x. []; allows = λ x. true; read = λ r. Ok (tt, r) }
-
-plus_none : (n : ℕ) → n ≡ n + 0
-plus_none n = omega arith
-
-minus_none : (n : ℕ) → n ≡ n - 0
-minus_none n = omega arith
-
-nothing_is : IsFormat nothing 0
-nothing_is = record {
-  takes = λ r fits. (refl, record { parts = refl; place = omega arith; room = omega arith; fits = fits });
-  onward = λ r. omega arith;
-  within = λ r. stayed r;
-  again = λ x place room rest h le. ap₂ (λ (p q : ℕ). Ok (tt, stand p q rest)) (plus_none place) (minus_none room);
-  more = λ rest r. refl;
-  bounded = λ x h. omega arith;
-}
-
-infixr 12 ◌then◌
-abbrev ◌then◌ : {A B : Type 0} {f : Format A} {g : Format B} {m n : ℕ} → IsFormat f m → IsFormat g n → IsFormat (f ▸ g) (m + n)
-p then q = then_is _ _ _ _ p q
+flag_is = coded_is (between 0 2) set_flag_of set_flag_code flag_again flag_allowed (λ code h. flag_back code (leb-true code 2 (and_parts (leb 0 code) (leb code 2) h).1))
 
 -- ---- shapes of fields
 

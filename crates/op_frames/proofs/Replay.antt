@@ -2,17 +2,17 @@
 -- some of them.
 use Rattle.std.proofs.Common.{◌≡◌, ℕ, zero, suc, ◌+◌, ◌-◌, ◌<◌, ◌≤◌, List, [], ◌∷◌, ◌++◌, length, drop, Result, Ok, Err, refl, sym, ap, subst, ◌∙◌, arith}
 use Rattle.std.proofs.lemmas.List.{length-append, length-drop, drop-append-le}
-use Rattle.op_frames.specs.declared.fault.FrameFault.{FrameFault}
-use Rattle.op_frames.specs.declared.fault.FrameFault.TheVariants as faults
+use Rattle.frame_fields.specs.declared.fault.FrameFault.{FrameFault}
+use Rattle.frame_fields.specs.declared.fault.FrameFault.TheVariants as faults
 use Rattle.op_frames.specs.declared.operation.Step.{Step}
 use Rattle.op_frames.specs.declared.operation.Step.TheVariants.{Call, End}
-use Rattle.op_frames.specs.Format.{Gives}
+use Rattle.frame_fields.specs.Format.{Gives}
 use Rattle.op_frames.specs.Operations.{step_field}
-use Rattle.op_frames.specs.Frames.{length_field, read_frame, frame_of}
+use Rattle.frame_fields.specs.Frames.{length_field, read_frame, frame_of}
 use Rattle.op_frames.specs.Replay.{Ended, Refused, Replay, fault_place, ended, with_call, replay_from, replay_at, ReplaysStep, Replays}
-use Rattle.op_frames.proofs.Formats.{IsBytes, On, Goes}
+use Rattle.frame_fields.proofs.Formats.{IsBytes, On, Goes}
 use Rattle.op_frames.proofs.Operations.{step_is}
-use Rattle.op_frames.proofs.Frames.{Framed, frame_took, frame_onward, frame_more}
+use Rattle.frame_fields.proofs.Frames.{Framed, frame_took, frame_onward, frame_more}
 
 -- what a replay does at what was read in front
 abbrev next : (ℕ → List ℕ → Replay) → ℕ → List ℕ → Result (Step × ℕ) FrameFault → Replay

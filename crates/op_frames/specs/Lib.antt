@@ -1,6 +1,4 @@
 pub mod Answers
-pub mod Format
-pub mod Frames
 pub mod Operations
 pub mod Replay
-pub mod Unread
+pub mod Replies

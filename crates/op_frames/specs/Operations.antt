@@ -1,44 +1,14 @@
 -- The operations, their codes and their fields in order.
-use Rattle.std.specs.Prelude.{ℕ, ◌-◌, ◌^◌, ◌==◌, List, ◌∷◌, Bool, true, [], ◌||◌, nat_le, if◌then◌else◌, Result, Ok}
-use Rattle.std.specs.Int.{w16, w32, w64}
-use Rattle.op_frames.specs.declared.fault.FrameFault.{FrameFault}
+use Rattle.std.specs.Prelude.{ℕ, ◌==◌, List, ◌∷◌, Bool, true, [], ◌||◌, nat_le, if◌then◌else◌, Result, Ok}
+use Rattle.frame_fields.specs.declared.fault.FrameFault.{FrameFault}
 use Rattle.op_frames.specs.declared.operation.Op.{Op}
 use Rattle.op_frames.specs.declared.operation.Op.TheVariants.{Lookup, Getattr, Chmod, Chown, Utimes, Truncate, Mkdir, Create, Unlink, Rmdir, Rename, Link, Symlink, Readlink, Open, Release, Read, Write, Fsync, Readdir, Statfs, Setxattr, Getxattr, Listxattr, Removexattr, CopyTree, LockTree, RemoveTree, FlushCache, UploadMeta, CacheSize, Leave, Unmount}
 use Rattle.op_frames.specs.declared.operation.SetFlag.{SetFlag}
 use Rattle.op_frames.specs.declared.operation.SetFlag.TheVariants as flags
 use Rattle.op_frames.specs.declared.operation.Step.{Step}
 use Rattle.op_frames.specs.declared.operation.Step.TheVariants.{Call, End}
-use Rattle.op_frames.specs.Format.{Rest, Format, ◌>>=◌, byte, number, counted, ◌▸◌, made, always, between}
-
--- ---- kinds of fields
-
-unfoldable pub u16_field : Format ℕ
-u16_field = number w16 always
-
-unfoldable pub u32_field : Format ℕ
-u32_field = number w32 always
-
-unfoldable pub u64_field : Format ℕ
-u64_field = number w64 always
-
--- a name, or the target of a link: two bytes of length
-unfoldable pub name_field : Format (List ℕ)
-name_field = counted u16_field
-
--- the data of a read or a write, or an attribute's value: four bytes of length, at most 131,072
-unfoldable pub data_length_field : Format ℕ
-data_length_field = number w32 (between 0 131072)
-
-unfoldable pub data_field : Format (List ℕ)
-data_field = counted data_length_field
-
--- who calls: 1 to 2^62 - 1
-unfoldable pub pass_field : Format ℕ
-pass_field = number w64 (between 1 (2 ^ 62 - 1))
-
--- when: below 2^62
-unfoldable pub time_field : Format ℕ
-time_field = number w64 (between 0 (2 ^ 62 - 1))
+use Rattle.frame_fields.specs.Format.{Rest, Format, ◌>>=◌, byte, ◌▸◌, made, coded, between}
+use Rattle.frame_fields.specs.Fields.{u16_field, u32_field, u64_field, name_field, data_field, pass_field, time_field}
 
 -- which attributes may be set: any, only a new one, or only an old one
 abbrev pub set_flag_code : SetFlag → ℕ
@@ -50,11 +20,7 @@ abbrev pub set_flag_of : ℕ → SetFlag
 set_flag_of code = if code == 0 then flags.Any else (if code == 1 then flags.New else flags.Old)
 
 unfoldable pub set_flag_field : Format SetFlag
-set_flag_field = record {
-  spell = λ flag. set_flag_code flag ∷ [];
-  allows = λ flag. true;
-  read = λ r. made set_flag_of ((byte (between 0 2)).read r);
-}
+set_flag_field = coded (between 0 2) set_flag_of set_flag_code
 
 -- ---- operations
 

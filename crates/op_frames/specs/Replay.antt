@@ -1,12 +1,12 @@
 -- The input of a replay: frames of calls, the frame of the end, and anything behind it.
 use Rattle.std.specs.Prelude.{◌≡◌, ℕ, zero, suc, ◌+◌, ◌^◌, List, [], ◌∷◌, ◌++◌, length, take, drop, Result, Ok, Err}
-use Rattle.op_frames.specs.declared.fault.FrameFault.{FrameFault}
-use Rattle.op_frames.specs.declared.fault.FrameFault.TheVariants as faults
+use Rattle.frame_fields.specs.declared.fault.FrameFault.{FrameFault}
+use Rattle.frame_fields.specs.declared.fault.FrameFault.TheVariants as faults
 use Rattle.op_frames.specs.declared.operation.Op.{Op}
 use Rattle.op_frames.specs.declared.operation.Step.{Step}
 use Rattle.op_frames.specs.declared.operation.Step.TheVariants.{Call, End}
 use Rattle.op_frames.specs.Operations.{step_field}
-use Rattle.op_frames.specs.Frames.{read_frame}
+use Rattle.frame_fields.specs.Frames.{read_frame}
 
 -- one call: who, when and what
 pub record Request : Type 0 where

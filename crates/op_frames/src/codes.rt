@@ -1,11 +1,12 @@
 //! The operation behind each code.
 ghost use Rattle.std.specs.Prelude.{◌≡◌};
-ghost use Rattle.op_frames.specs.Format.{Gives};
+ghost use Rattle.frame_fields.specs.Format.{Gives};
 ghost use Rattle.op_frames.specs.Operations.{op_to_8, op_to_16, op_to_24, op_to_33, op_behind, op_field};
-ghost use Rattle.op_frames.specs.Unread.{rest_of};
+ghost use Rattle.frame_fields.specs.Unread.{rest_of};
 
-use crate::fields::{self, Unread};
+use crate::flags::operation_of;
 use crate::{FrameFault, Op, shapes};
+use frame_fields::fields::{self, Unread};
 use std::alloc::Global;
 
 /// The fields behind a code from 1 to 8.
@@ -170,6 +171,6 @@ fn op_behind_code(
 pub fn op_of(alloc: Global, unread: Unread<'_>) -> Result<(Op, Unread<'_>), FrameFault>
     ensures { Gives (λ x. (x.0, rest_of x.1)) result (op_field.read (rest_of unread.entry)) }
 {
-    let (code, unread) = fields::operation_of(unread)?;
+    let (code, unread) = operation_of(unread)?;
     op_behind_code(alloc, code, unread)
 }

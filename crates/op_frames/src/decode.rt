@@ -3,15 +3,17 @@ ghost use Rattle.std.specs.Prelude.{◌≡◌, ◌+◌, ◌++◌, ◌≤◌, Lis
 ghost use Rattle.op_frames.specs.declared.operation.Op.{Op};
 ghost use Rattle.op_frames.specs.declared.operation.Step.{Step};
 ghost use Rattle.op_frames.specs.declared.operation.Step.TheVariants.{Call};
-ghost use Rattle.op_frames.specs.Format.{Gives, made};
+ghost use Rattle.frame_fields.specs.Format.{Gives, made};
 ghost use Rattle.op_frames.specs.Operations.{call_fields, op_field, step_behind, step_field, is_op, is_step};
-ghost use Rattle.op_frames.specs.Frames.{body_at, end_at, frame_of, read_frame, EndsInside, StandsInFront};
+ghost use Rattle.frame_fields.specs.Frames.{body_at, end_at, frame_of, read_frame, EndsInside, StandsInFront};
 ghost use Rattle.op_frames.specs.Replay.{Replays};
-ghost use Rattle.op_frames.specs.Unread.{rest_of};
+ghost use Rattle.frame_fields.specs.Unread.{rest_of};
 
 use crate::codes::op_of;
-use crate::fields::{self, Unread};
+use crate::flags::kind_of;
 use crate::{FrameFault, Op, Step};
+use frame_fields::fields::{self, Unread};
+use frame_fields::framing::{body_of, end_of};
 use std::alloc::Global;
 
 fn call_of(alloc: Global, unread: Unread<'_>) -> Result<(Step, Unread<'_>), FrameFault>
@@ -42,38 +44,11 @@ fn step_behind_kind(
 fn step_of(alloc: Global, unread: Unread<'_>) -> Result<(Step, Unread<'_>), FrameFault>
     ensures { Gives (λ x. (x.0, rest_of x.1)) result (step_field.read (rest_of unread.entry)) }
 {
-    let (kind, unread) = fields::kind_of(unread)?;
+    let (kind, unread) = kind_of(unread)?;
     step_behind_kind(alloc, kind, unread)
 }
 
-/// The fields of the frame in front, behind its length.
-#[tactic(auto, unfolding(crate::specs::Frames::length_field))]
-fn body_of(bytes: &[u8]) -> Result<Unread<'_>, FrameFault>
-    ensures { Gives rest_of result (body_at bytes.now) }
-{
-    let (length, unread) = fields::length_of(Unread {
-        place: 0,
-        end: 4,
-        bytes,
-    })?;
-    Ok(Unread {
-        place: 4,
-        end: 4 + length as u64,
-        bytes: unread.bytes,
-    })
-}
-
-/// The frame's length, if its fields fill it.
-fn end_of(unread: Unread<'_>) -> Result<usize, FrameFault>
-    ensures { Gives (λ n. n) result (end_at (rest_of unread.entry)) }
-{
-    if unread.place < unread.end {
-        return Err(FrameFault::Bad(unread.place));
-    }
-    Ok(unread.place as usize)
-}
-
-#[tactic(auto, unfolding(crate::specs::Frames::read_frame))]
+#[tactic(auto, unfolding(frame_fields::specs::Frames::read_frame))]
 fn op_frame_of(alloc: Global, bytes: &[u8]) -> Result<(Op, usize), FrameFault>
     ensures { Gives (λ x. x) result (read_frame op_field bytes.now) }
 {
@@ -83,7 +58,7 @@ fn op_frame_of(alloc: Global, bytes: &[u8]) -> Result<(Op, usize), FrameFault>
     Ok((op, length))
 }
 
-#[tactic(auto, unfolding(crate::specs::Frames::read_frame))]
+#[tactic(auto, unfolding(frame_fields::specs::Frames::read_frame))]
 fn step_frame_of(alloc: Global, bytes: &[u8]) -> Result<(Step, usize), FrameFault>
     ensures { Gives (λ x. x) result (read_frame step_field bytes.now) }
 {

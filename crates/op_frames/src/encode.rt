@@ -1,14 +1,17 @@
 //! Frames of replies and of a replay's answers.
-ghost use Rattle.std.specs.Prelude.{◌≡◌, ◌++◌, ◌<◌, ◌≤◌, ◌^◌, [], ◌∷◌, length, IsTrue, IfOk, OnOk};
+ghost use Rattle.std.specs.Prelude.{◌≡◌, ◌++◌, ◌≤◌, ◌∷◌, length, IsTrue, IfOk, OnOk};
 ghost use Rattle.std.specs.List.{list_all};
 ghost use Rattle.op_frames.specs.declared.reply.Reply.TheVariants as replies;
-ghost use Rattle.op_frames.specs.Operations.{u16_field, u32_field, u64_field, name_field, data_field};
-ghost use Rattle.op_frames.specs.Frames.{framed};
-ghost use Rattle.op_frames.specs.Answers.{kind_code, cause_code, flag_code, attr_spelling, names_spelling, entry_spelling, entries_spelling, got_spelling, reply_spelling, is_short_name, has_short_name, has_short_data, reply_frame, answer_frame, bad_input_frame};
+ghost use Rattle.op_frames.specs.Replies.{attr_field, entry_field, entries_field, names_field, cause_code, reply_spelling};
+ghost use Rattle.op_frames.specs.Answers.{is_short_name, has_short_name, has_short_data, reply_frame, answer_frame, bad_input_frame};
 
 use crate::{Attr, Cause, DirEntry, DirEntryList, NameList, Reply};
-use byteorder::{BigEndian, ByteOrder};
-use s3_base::{ByteList, Errno, Kind};
+use frame_fields::framing::frame_around;
+use frame_fields::writers::{
+    put_data, put_digest, put_digest_or_none, put_flag, put_item_count, put_mode, put_node_kind,
+    put_short_name, put_u16, put_u32, put_u64,
+};
+use s3_base::{ByteList, Errno};
 use std::alloc::{AllocError, Global};
 
 /// The tag of a replay's answer that holds a reply.
@@ -16,43 +19,6 @@ const REPLY: u8 = 1;
 
 /// The tag of the answer at which the input is refused.
 const BAD_INPUT: u8 = 27;
-
-#[tactic(auto, unfolding(crate::specs::Operations::u16_field))]
-fn put_u16(out: &mut ByteList, number: u16) -> Result<(), AllocError>
-    ensures { OnOk result (out.new ≡ out.old ++ u16_field.spell number) }
-{
-    let mut bytes = [0; 2];
-    BigEndian::write_u16(&mut bytes, number);
-    out.extend_from_slice(&bytes)
-}
-
-#[tactic(auto, unfolding(crate::specs::Operations::u32_field))]
-fn put_u32(out: &mut ByteList, number: u32) -> Result<(), AllocError>
-    ensures { OnOk result (out.new ≡ out.old ++ u32_field.spell number) }
-{
-    let mut bytes = [0; 4];
-    BigEndian::write_u32(&mut bytes, number);
-    out.extend_from_slice(&bytes)
-}
-
-#[tactic(auto, unfolding(crate::specs::Operations::u64_field))]
-fn put_u64(out: &mut ByteList, number: u64) -> Result<(), AllocError>
-    ensures { OnOk result (out.new ≡ out.old ++ u64_field.spell number) }
-{
-    let mut bytes = [0; 8];
-    BigEndian::write_u64(&mut bytes, number);
-    out.extend_from_slice(&bytes)
-}
-
-fn code_of_kind(kind: Kind) -> u8
-    ensures { result ≡ kind_code kind }
-{
-    match kind {
-        Kind::Directory => 1,
-        Kind::Regular => 2,
-        Kind::Link => 3,
-    }
-}
 
 fn code_of_cause(cause: Cause) -> u8
     ensures { result ≡ cause_code cause }
@@ -66,66 +32,47 @@ fn code_of_cause(cause: Cause) -> u8
 }
 
 fn put_attr(out: &mut ByteList, attr: &Attr) -> Result<(), AllocError>
-    ensures { OnOk result (out.new ≡ out.old ++ attr_spelling attr.now) }
+    ensures { OnOk result (out.new ≡ out.old ++ attr_field.spell attr.now) }
 {
     put_u64(out, attr.inode)?;
-    out.push(code_of_kind(attr.kind))?;
-    put_u16(out, attr.mode)?;
+    put_node_kind(out, attr.kind)?;
+    put_mode(out, attr.mode)?;
     put_u32(out, attr.uid)?;
     put_u32(out, attr.gid)?;
     put_u64(out, attr.links)?;
     put_u64(out, attr.size)?;
     put_u64(out, attr.mtime)?;
     put_u64(out, attr.ctime)?;
-    out.push(u8::from(attr.locked))?;
-    Ok(())
-}
-
-#[tactic(auto, unfolding(crate::specs::Operations::u32_field, crate::specs::Operations::data_field, crate::specs::Operations::data_length_field))]
-fn put_data(out: &mut ByteList, bytes: &ByteList) -> Result<(), AllocError>
-    requires { length bytes.now ≤ 131072 }
-    ensures { OnOk result (out.new ≡ out.old ++ data_field.spell bytes.now) }
-{
-    put_u32(out, bytes.len() as u32)?;
-    out.extend_from_slice(bytes.as_slice())
-}
-
-#[tactic(auto, unfolding(crate::specs::Operations::name_field))]
-fn put_name(out: &mut ByteList, name: &ByteList) -> Result<(), AllocError>
-    requires { length name.now ≤ 255 }
-    ensures { OnOk result (out.new ≡ out.old ++ name_field.spell name.now) }
-{
-    put_u16(out, name.len() as u16)?;
-    out.extend_from_slice(name.as_slice())
+    put_flag(out, attr.locked)
 }
 
 fn put_names(out: &mut ByteList, names: &NameList) -> Result<(), AllocError>
     requires few { length names.now ≤ 256 }
     requires short { IsTrue (list_all is_short_name names.now) }
-    ensures { OnOk result (out.new ≡ out.old ++ names_spelling names.now) }
+    ensures { OnOk result (out.new ≡ out.old ++ names_field.spell names.now) }
 {
-    put_u16(out, names.len() as u16)?;
+    put_item_count(out, names.len() as u16)?;
     for name in names.as_slice() {
-        put_name(out, name)?;
+        put_short_name(out, name)?;
     }
     Ok(())
 }
 
 fn put_entry(out: &mut ByteList, entry: &DirEntry) -> Result<(), AllocError>
     requires { length entry.now.name ≤ 255 }
-    ensures { OnOk result (out.new ≡ out.old ++ entry_spelling entry.now) }
+    ensures { OnOk result (out.new ≡ out.old ++ entry_field.spell entry.now) }
 {
     put_u64(out, entry.inode)?;
-    out.push(code_of_kind(entry.kind))?;
-    put_name(out, &entry.name)
+    put_node_kind(out, entry.kind)?;
+    put_short_name(out, &entry.name)
 }
 
 fn put_entries(out: &mut ByteList, entries: &DirEntryList) -> Result<(), AllocError>
     requires few { length entries.now ≤ 256 }
     requires short { IsTrue (list_all has_short_name entries.now) }
-    ensures { OnOk result (out.new ≡ out.old ++ entries_spelling entries.now) }
+    ensures { OnOk result (out.new ≡ out.old ++ entries_field.spell entries.now) }
 {
-    put_u16(out, entries.len() as u16)?;
+    put_item_count(out, entries.len() as u16)?;
     for entry in entries.as_slice() {
         put_entry(out, entry)?;
     }
@@ -170,23 +117,12 @@ fn put_errno(out: &mut ByteList, errno: Errno) -> Result<(), AllocError>
     put_u16(out, errno.0)
 }
 
+#[tactic(auto, unfolding(crate::specs::Replies::cause_field))]
 fn put_cause(out: &mut ByteList, cause: Cause) -> Result<(), AllocError>
     ensures { OnOk result (out.new ≡ out.old ++ reply_spelling (replies.Fault cause)) }
 {
     out.push(10)?;
     out.push(code_of_cause(cause))
-}
-
-fn put_got(out: &mut ByteList, got: &Option<[u8; 32]>) -> Result<(), AllocError>
-    ensures { OnOk result (out.new ≡ out.old ++ got_spelling got.now) }
-{
-    match got {
-        None => out.push(0),
-        Some(digest) => {
-            out.push(1)?;
-            out.extend_from_slice(digest)
-        }
-    }
 }
 
 fn put_lost(
@@ -199,8 +135,8 @@ fn put_lost(
 {
     out.push(11)?;
     put_u64(out, object)?;
-    out.extend_from_slice(kept)?;
-    put_got(out, got)
+    put_digest(out, kept)?;
+    put_digest_or_none(out, got)
 }
 
 fn put_reply(out: &mut ByteList, reply: &Reply) -> Result<(), AllocError>
@@ -239,26 +175,15 @@ fn put_reply(out: &mut ByteList, reply: &Reply) -> Result<(), AllocError>
     }
 }
 
-/// The frame around a body.
-#[tactic(auto, unfolding(crate::specs::Operations::u32_field))]
-fn frame(alloc: Global, body: &ByteList) -> Result<ByteList, AllocError>
-    requires { length body.now < 2 ^ 32 }
-    ensures { IfOk result (λ b. b ≡ framed body.now) }
-{
-    let mut out = ByteList::new(alloc);
-    put_u32(&mut out, body.len() as u32)?;
-    out.extend_from_slice(body.as_slice())?;
-    Ok(out)
-}
-
 /// The bare frame of a reply, as a server writes it.
+#[tactic(auto, unfolding(crate::specs::Replies::reply_field))]
 pub fn encode_reply(alloc: Global, reply: &Reply) -> Result<ByteList, AllocError>
     requires { IsTrue (has_short_data reply.now) }
     ensures { IfOk result (λ b. b ≡ reply_frame reply.now) }
 {
     let mut body = ByteList::new(alloc);
     put_reply(&mut body, reply)?;
-    frame(alloc, &body)
+    frame_around(alloc, &body)
 }
 
 /// The answer frame of a reply, as a replay writes it.
@@ -269,7 +194,7 @@ pub fn encode_answer(alloc: Global, reply: &Reply) -> Result<ByteList, AllocErro
     let mut body = ByteList::new(alloc);
     body.push(REPLY)?;
     put_reply(&mut body, reply)?;
-    frame(alloc, &body)
+    frame_around(alloc, &body)
 }
 
 /// The last answer frame of a replay whose input is refused at a place.
@@ -279,5 +204,5 @@ pub fn encode_bad_input(alloc: Global, place: u64) -> Result<ByteList, AllocErro
     let mut body = ByteList::new(alloc);
     body.push(BAD_INPUT)?;
     put_u64(&mut body, place)?;
-    frame(alloc, &body)
+    frame_around(alloc, &body)
 }

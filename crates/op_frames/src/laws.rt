@@ -3,7 +3,7 @@ ghost use Rattle.std.specs.Prelude.{◌≡◌, ◌++◌, List, ℕ, IsTrue};
 ghost use Rattle.op_frames.specs.declared.operation.Op.{Op};
 ghost use Rattle.op_frames.specs.declared.operation.Step.{Step};
 ghost use Rattle.op_frames.specs.Operations.{op_field, step_field, is_op, is_step};
-ghost use Rattle.op_frames.specs.Frames.{frame_of};
+ghost use Rattle.frame_fields.specs.Frames.{frame_of};
 
 /// No frame of an operation begins another, so what was written is read again, whatever follows it.
 pub fn op_frames_differ()

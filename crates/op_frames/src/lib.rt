@@ -4,8 +4,7 @@
 mod codes;
 mod decode;
 mod encode;
-mod fault;
-mod fields;
+mod flags;
 mod laws;
 mod lists;
 mod operation;
@@ -14,7 +13,7 @@ mod shapes;
 
 pub use decode::{decode_call, decode_op};
 pub use encode::{encode_answer, encode_bad_input, encode_reply};
-pub use fault::FrameFault;
+pub use frame_fields::FrameFault;
 pub use laws::{op_frames_differ, step_frames_differ};
 pub use lists::{DirEntryList, NameList};
 pub use operation::{Op, SetFlag, Step};

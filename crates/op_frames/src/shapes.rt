@@ -1,12 +1,13 @@
 //! The fields of operations: of a shape that several operations share, or of one operation.
 ghost use Rattle.std.specs.Prelude.{◌≡◌};
 ghost use Rattle.op_frames.specs.declared.operation.Op.TheVariants.{Chmod, Chown, Mkdir, Create, Rename, Symlink, Read, Write, Setxattr};
-ghost use Rattle.op_frames.specs.Format.{Gives, made};
+ghost use Rattle.frame_fields.specs.Format.{Gives, made};
 ghost use Rattle.op_frames.specs.Operations.{lookup_fields, chmod_fields, chown_fields, utimes_fields, create_fields, rename_fields, link_fields, symlink_fields, read_fields, write_fields, readdir_fields, setxattr_fields};
-ghost use Rattle.op_frames.specs.Unread.{rest_of};
+ghost use Rattle.frame_fields.specs.Unread.{rest_of};
 
-use crate::fields::{self, Unread};
+use crate::flags::set_flag_of;
 use crate::{FrameFault, Op};
+use frame_fields::fields::{self, Unread};
 use s3_base::ByteList;
 use std::alloc::Global;
 
@@ -196,7 +197,7 @@ pub fn setxattr_of(alloc: Global, unread: Unread<'_>) -> Result<(Op, Unread<'_>)
 {
     let (inode, unread) = fields::u64_of(unread)?;
     let (name, unread) = fields::name_of(alloc, unread)?;
-    let (flag, unread) = fields::set_flag_of(unread)?;
+    let (flag, unread) = set_flag_of(unread)?;
     let (value, unread) = fields::data_of(alloc, unread)?;
     Ok((
         Op::Setxattr {

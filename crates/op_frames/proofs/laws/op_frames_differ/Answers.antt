@@ -1,7 +1,7 @@
 use Rattle.std.proofs.Common.{arith}
 use Rattle.op_frames.specs.Operations.{op_field}
 use Rattle.op_frames.proofs.Operations.{op_is, op_some}
-use Rattle.op_frames.proofs.Frames.{frames_differ}
+use Rattle.frame_fields.proofs.Frames.{frames_differ}
 use Rattle.op_frames.proofs.laws.op_frames_differ.Goals as goal
 
 pub returns : goal.returns

@@ -1,6 +1,6 @@
 use Rattle.std.proofs.Common.{arith}
 use Rattle.std.proofs.lemmas.Bool.Decides.{nat_tests}
-use Rattle.op_frames.specs.Operations.{u64_field}
+use Rattle.frame_fields.specs.Fields.{u64_field}
 use Rattle.row_tests.proofs.asks.getattr.Goals as goal
 
 pub returns : goal.returns

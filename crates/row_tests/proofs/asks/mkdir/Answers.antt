@@ -1,7 +1,7 @@
 use Rattle.std.proofs.Common.{arith}
 use Rattle.std.proofs.lemmas.Bool.Decides.{nat_tests}
 use Rattle.std.proofs.lemmas.Grind.{common_steps}
-use Rattle.op_frames.specs.Operations.{u16_field, u32_field, u64_field, name_field}
+use Rattle.frame_fields.specs.Fields.{u16_field, u32_field, u64_field, name_field}
 use Rattle.row_tests.proofs.asks.mkdir.Goals as goal
 
 pub returns : goal.returns

@@ -1,6 +1,6 @@
 use Rattle.std.proofs.Common.{arith}
 use Rattle.std.proofs.lemmas.Bool.Decides.{nat_tests}
-use Rattle.op_frames.specs.Operations.{u32_field, u64_field}
+use Rattle.frame_fields.specs.Fields.{u32_field, u64_field}
 use Rattle.row_tests.proofs.asks.read.Goals as goal
 
 pub returns : goal.returns

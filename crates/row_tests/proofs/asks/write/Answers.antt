@@ -1,7 +1,7 @@
 use Rattle.std.proofs.Common.{arith}
 use Rattle.std.proofs.lemmas.Bool.Decides.{nat_tests}
 use Rattle.std.proofs.lemmas.Grind.{common_steps}
-use Rattle.op_frames.specs.Operations.{u64_field, data_field, data_length_field}
+use Rattle.frame_fields.specs.Fields.{u64_field, data_field, data_length_field}
 use Rattle.row_tests.proofs.asks.write.Goals as goal
 
 pub returns : goal.returns

@@ -1,9 +1,9 @@
 -- A frame: four bytes of length, from 1 to 262,144, and so many bytes, which its fields fill exactly.
 use Rattle.std.specs.Prelude.{◌≡◌, ℕ, ◌+◌, ◌==◌, ◌<◌, ◌≤◌, List, ◌++◌, length, take, IsTrue, if◌then◌else◌, Result, Ok, Err}
 use Rattle.std.specs.Int.{w32, from_be_bytes, to_be_bytes}
-use Rattle.op_frames.specs.declared.fault.FrameFault.{FrameFault}
-use Rattle.op_frames.specs.declared.fault.FrameFault.TheVariants as faults
-use Rattle.op_frames.specs.Format.{Rest, Format, ◌>>=◌, number, between}
+use Rattle.frame_fields.specs.declared.fault.FrameFault.{FrameFault}
+use Rattle.frame_fields.specs.declared.fault.FrameFault.TheVariants as faults
+use Rattle.frame_fields.specs.Format.{Rest, Format, ◌>>=◌, number, between}
 
 unfoldable pub length_field : Format ℕ
 length_field = number w32 (between 1 262144)

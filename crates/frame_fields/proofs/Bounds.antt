@@ -4,16 +4,12 @@ use Rattle.std.proofs.Common.{◌≡◌, ℕ, ◌+◌, ◌<◌, ◌≤◌, eqb, 
 use Rattle.std.specs.Int.{w32, from_be_bytes}
 use Rattle.std.proofs.lemmas.Bool.{ltb-false, ltb-true, leb-true, and_parts}
 use Rattle.std.proofs.lemmas.List.{length-drop}
-use Rattle.op_frames.specs.declared.fault.FrameFault.{FrameFault}
-use Rattle.op_frames.specs.declared.fault.FrameFault.TheVariants as faults
-use Rattle.op_frames.specs.declared.operation.Op.{Op}
-use Rattle.op_frames.specs.declared.operation.Step.{Step}
-use Rattle.op_frames.specs.Format.{Rest, past, ◌>>=◌, Format, checked, between, Gives}
-use Rattle.op_frames.specs.Operations.{op_field, step_field}
-use Rattle.op_frames.specs.Frames.{length_field, body_at, end_at, read_frame, said_length, EndsInside}
-use Rattle.op_frames.proofs.Within.{cond_has, stand, Within}
-use Rattle.op_frames.proofs.Formats.{IsFormat}
-use Rattle.op_frames.proofs.Operations.{op_is, step_is}
+use Rattle.frame_fields.specs.declared.fault.FrameFault.{FrameFault}
+use Rattle.frame_fields.specs.declared.fault.FrameFault.TheVariants as faults
+use Rattle.frame_fields.specs.Format.{Rest, past, ◌>>=◌, Format, checked, between, Gives}
+use Rattle.frame_fields.specs.Frames.{length_field, body_at, end_at, read_frame, said_length, EndsInside}
+use Rattle.frame_fields.proofs.Within.{cond_has, stand, Within}
+use Rattle.frame_fields.proofs.Formats.{IsFormat}
 
 record Opened (bytes : List ℕ) (body : Rest) : Type 0 where
   place : body.place ≡ 4
@@ -77,14 +73,9 @@ result_in f most is bytes (Err faults.Short) given = subst (Ends bytes) given (f
 result_in f most is bytes (Err (faults.Bad place)) given = subst (Ends bytes) given (frame_in f most is bytes)
 result_in f most is bytes (Err faults.Memory) given = tt
 
-abbrev BoundedFaults : {A : Type 0} → List ℕ → Result A FrameFault → Type 0
+abbrev pub BoundedFaults : {A : Type 0} → List ℕ → Result A FrameFault → Type 0
 BoundedFaults bytes r = (r ≡ Err faults.Short → EndsInside bytes) × ((place : ℕ) → r ≡ Err (faults.Bad place) → place ≤ 4 + 262144)
 
-faults_in : {A : Type 0} (f : Format A) (most : ℕ) → IsFormat f most → (bytes : List ℕ) (r : Result (A × ℕ) FrameFault) → Gives (λ x. x) r (read_frame f bytes) → BoundedFaults bytes r
+-- bytes are missing only inside a frame, and a fault lies in it
+pub faults_in : {A : Type 0} (f : Format A) (most : ℕ) → IsFormat f most → (bytes : List ℕ) (r : Result (A × ℕ) FrameFault) → Gives (λ x. x) r (read_frame f bytes) → BoundedFaults bytes r
 faults_in f most is bytes r given = (λ e. subst (Ends bytes) e (result_in f most is bytes r given), λ place e. subst (Ends bytes) e (result_in f most is bytes r given))
-
-pub op_faults : (bytes : List ℕ) (r : Result (Op × ℕ) FrameFault) → Gives (λ x. x) r (read_frame op_field bytes) → BoundedFaults bytes r
-op_faults bytes r given = faults_in op_field 250001 op_is bytes r given
-
-pub step_faults : (bytes : List ℕ) (r : Result (Step × ℕ) FrameFault) → Gives (λ x. x) r (read_frame step_field bytes) → BoundedFaults bytes r
-step_faults bytes r given = faults_in step_field 262001 step_is bytes r given

@@ -1,14 +1,14 @@
 -- What each format keeps: what is read is spelled so and allowed, what is spelled so is read again, and bytes behind
 -- what was read, or behind a fault, change nothing.
-use Rattle.std.proofs.Common.{◌≡◌, ℕ, ◌+◌, ◌-◌, ◌^◌, ◌<◌, ◌≤◌, Bool, true, false, ◌&&◌, cond, ltb, List, [], ◌∷◌, ◌++◌, length, get_or, take, drop, Result, Ok, Err, refl, sym, ap, ap₂, subst, ◌∙◌, append_assoc, arith, inl, inr}
+use Rattle.std.proofs.Common.{◌≡◌, ℕ, ◌+◌, ◌-◌, ◌^◌, ◌<◌, ◌≤◌, Bool, true, false, ◌&&◌, cond, eqb, ltb, List, [], ◌∷◌, ◌++◌, length, get_or, take, drop, Result, Ok, Err, refl, sym, ap, ap₂, subst, ◌∙◌, append_assoc, arith, inl, inr}
 use Rattle.std.specs.Int.{w16, w32, w64, byte_len, from_be_bytes, to_be_bytes}
-use Rattle.std.proofs.lemmas.Bool.{cases_lt, ltb-false, ltb-true, lt-ltb, le-ltb, and_from, and_parts}
+use Rattle.std.proofs.lemmas.Bool.{cases_lt, ltb-false, ltb-true, lt-ltb, le-ltb, eqb-true, eq-eqb, and_from, and_parts}
 use Rattle.std.proofs.lemmas.List.{take_at, drop_at, take-append-drop, length-append, length-take, get_or-drop, get_or-take, get_or_past, take-append-le, drop-append-le}
 use Rattle.std.proofs.lemmas.Nat.{be_bytes_2, be_bytes_4, be_bytes_8, from_be_bytes-to_be_bytes_2, from_be_bytes-to_be_bytes_4, from_be_bytes-to_be_bytes_8}
-use Rattle.op_frames.specs.declared.fault.FrameFault.{FrameFault}
-use Rattle.op_frames.specs.declared.fault.FrameFault.TheVariants as faults
-use Rattle.op_frames.specs.Format.{Rest, past, ◌>>=◌, Format, front, checked, byte, number, counted, ◌▸◌}
-use Rattle.op_frames.proofs.Within.{cond_has, stand, Within, Within-then, stayed, front_within, checked_within}
+use Rattle.frame_fields.specs.declared.fault.FrameFault.{FrameFault}
+use Rattle.frame_fields.specs.declared.fault.FrameFault.TheVariants as faults
+use Rattle.frame_fields.specs.Format.{Rest, past, ◌>>=◌, Format, front, checked, byte, number, counted, ◌▸◌, made, shaped, coded, fixed}
+use Rattle.frame_fields.proofs.Within.{cond_has, stand, Within, Within-then, stayed, front_within, checked_within}
 
 abbrev pub IsBytes : List ℕ → Type 0
 IsBytes bytes = (i : ℕ) → get_or bytes i 0 < 256
@@ -270,3 +270,67 @@ then_is {A} {B} f g m n p q = record {
       let b = q.bounded x.1 allowed.1 in
       omega (arith, a, b, length-append (f.spell x.0) (g.spell x.1));
 }
+
+-- ---- values made of parts
+
+-- the parts are read and made a value, which has these parts again
+pub seen_is : {A B : Type 0} (f : Format A) (most : ℕ) → IsFormat f most → (make : A → B) (parts : B → A) (allows : B → Bool) → ((y : B) → make (parts y) ≡ y) → ((x : A) → f.allows x ≡ true → parts (make x) ≡ x)
+    → ((y : B) → allows y ≡ true → f.allows (parts y) ≡ true) → ((x : A) → f.allows x ≡ true → allows (make x) ≡ true) → IsFormat (record { spell = λ y. f.spell (parts y); allows = allows; read = λ r. made make (f.read r) }) most
+seen_is {A} {B} f most is make parts allows there back known allowed = record {
+  takes = λ r fits. On-then (λ x. (f.allows x.0 ≡ true) × Took (f.spell x.0) r x.1) (λ y. (allows y.0 ≡ true) × Took (f.spell (parts y.0)) r y.1) (f.read r) (λ x. Ok (make x.0, x.1)) (is.takes r fits)
+      (λ x h. (allowed x.0 h.0, subst (λ (z : A). Took (f.spell z) r x.1) (sym (back x.0 h.0)) h.1));
+  onward = λ r. On-then (λ x. r.place ≤ x.1.place) (λ y. r.place ≤ y.1.place) (f.read r) (λ x. Ok (make x.0, x.1)) (is.onward r) (λ x h. h);
+  within = λ r. Within-then r (f.read r) (λ x. Ok (make x.0, x.1)) (is.within r) (λ x m. stayed x.1);
+  again = λ y place room rest h le.
+      ap (made make) (is.again (parts y) place room rest (known y h) le)
+      ∙ ap (λ (z : B). Ok (z, stand (place + length (f.spell (parts y))) (room - length (f.spell (parts y))) rest)) (there y);
+  more = λ rest r. Goes-then (with_behind rest) (with_behind rest) (f.read r) (f.read (behind rest r)) (λ x. Ok (make x.0, x.1)) (λ x. Ok (make x.0, x.1)) (is.more rest r) (λ x. refl);
+  bounded = λ y h. is.bounded (parts y) (known y h);
+}
+
+pub shaped_is : {A B : Type 0} (make : A → B) (parts : B → A) (f : Format A) (most : ℕ) → IsFormat f most → ((y : B) → make (parts y) ≡ y) → ((x : A) → parts (make x) ≡ x) → IsFormat (shaped make parts f) most
+shaped_is make parts f most is there back = seen_is f most is make parts (λ y. f.allows (parts y)) there (λ x h. back x) (λ y h. h) (λ x h. ap (λ z. f.allows z) (back x) ∙ h)
+
+pub coded_is : {T : Type 0} (known : ℕ → Bool) (value : ℕ → T) (code : T → ℕ) → ((x : T) → value (code x) ≡ x) → ((x : T) → (ltb (code x) 256 && known (code x)) ≡ true) → ((c : ℕ) → known c ≡ true → code (value c) ≡ c) → IsFormat (coded known value code) 1
+coded_is known value code there inside back =
+    seen_is (byte known) 1 (byte_is known) value code (λ x. true) there (λ c h. back c (and_parts (ltb c 256) (known c) h).1) (λ x h. inside x) (λ c h. refl)
+
+-- ---- so many bytes, whose number is not told
+
+pub fixed_is : (n : ℕ) → IsFormat (fixed n) n
+fixed_is n = record {
+  takes = λ r fits. On-map (λ b. (length b.0 ≡ n) × IsBytes b.0 × Took b.0 r b.1) (λ x. (eqb (length x.0) n ≡ true) × Took x.0 r x.1) (front n r) (front_took n r fits) (λ b h. (eq-eqb (length b.0) n h.0, h.2));
+  onward = λ r. front_onward n r;
+  within = λ r. front_within n r;
+  again = λ x place room rest h le.
+      let len : length x ≡ n = eqb-true (length x) n h in
+      front_again n x place room rest len (omega (arith, len, le)) ∙ ap (λ (k : ℕ). Ok (x, stand (place + k) (room - k) rest)) (sym len);
+  more = λ rest r. front_more n rest r;
+  bounded = λ x h. le_from_eq (length x) n (eqb-true (length x) n h);
+}
+
+-- ---- no fields, and fields in a row by their laws
+
+-- no fields
+abbrev pub nothing : Format (Unit {0})
+nothing = record { spell = λ x. []; allows = λ x. true; read = λ r. Ok (tt, r) }
+
+pub plus_none : (n : ℕ) → n ≡ n + 0
+plus_none n = omega arith
+
+pub minus_none : (n : ℕ) → n ≡ n - 0
+minus_none n = omega arith
+
+pub nothing_is : IsFormat nothing 0
+nothing_is = record {
+  takes = λ r fits. (refl, record { parts = refl; place = omega arith; room = omega arith; fits = fits });
+  onward = λ r. omega arith;
+  within = λ r. stayed r;
+  again = λ x place room rest h le. ap₂ (λ (p q : ℕ). Ok (tt, stand p q rest)) (plus_none place) (minus_none room);
+  more = λ rest r. refl;
+  bounded = λ x h. omega arith;
+}
+
+infixr 12 ◌then◌
+abbrev pub ◌then◌ : {A B : Type 0} {f : Format A} {g : Format B} {m n : ℕ} → IsFormat f m → IsFormat g n → IsFormat (f ▸ g) (m + n)
+p then q = then_is _ _ _ _ p q

@@ -4,12 +4,12 @@ use Rattle.std.proofs.Common.{◌≡◌, ℕ, ◌+◌, ◌-◌, ◌≤◌, true,
 use Rattle.std.specs.Int.{w32, to_be_bytes}
 use Rattle.std.proofs.lemmas.Bool.{eqb-true, and_from, lt-ltb, le-leb}
 use Rattle.std.proofs.lemmas.List.{take_at, drop_at, length-append}
-use Rattle.op_frames.specs.declared.fault.FrameFault.{FrameFault}
-use Rattle.op_frames.specs.declared.fault.FrameFault.TheVariants as faults
-use Rattle.op_frames.specs.Format.{Rest, ◌>>=◌, Format, between, Gives}
-use Rattle.op_frames.specs.Frames.{length_field, frame_of, body_at, end_at, read_frame, StandsInFront}
-use Rattle.op_frames.proofs.Within.{cond_has, stand}
-use Rattle.op_frames.proofs.Formats.{IsBytes, On, On-then, Goes, Goes-then, behind, with_behind, Took, IsFormat, number32_is}
+use Rattle.frame_fields.specs.declared.fault.FrameFault.{FrameFault}
+use Rattle.frame_fields.specs.declared.fault.FrameFault.TheVariants as faults
+use Rattle.frame_fields.specs.Format.{Rest, ◌>>=◌, Format, between, Gives}
+use Rattle.frame_fields.specs.Frames.{length_field, frame_of, body_at, end_at, read_frame, StandsInFront}
+use Rattle.frame_fields.proofs.Within.{cond_has, stand}
+use Rattle.frame_fields.proofs.Formats.{IsBytes, On, On-then, Goes, Goes-then, behind, with_behind, Took, IsFormat, number32_is}
 
 length_is : IsFormat length_field 4
 unfolding length_field

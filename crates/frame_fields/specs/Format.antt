@@ -1,9 +1,10 @@
 -- How a field is spelled, which of its values are allowed, and how it is read from the left: the first decided field
 -- outside its rule is the fault.
-use Rattle.std.specs.Prelude.{◌≡◌, ℕ, ◌+◌, ◌-◌, ◌*◌, ◌^◌, List, [], ◌∷◌, ◌++◌, length, take, drop, slice_index, Bool, true, ◌&&◌, nat_lt, nat_le, if◌then◌else◌, Result, Ok, Err}
+use Rattle.std.specs.Prelude.{◌≡◌, ℕ, zero, suc, ◌≤◌, ◌+◌, ◌-◌, ◌*◌, ◌^◌, ◌==◌, List, [], ◌∷◌, ◌++◌, length, take, drop, slice_index, flat_map, Bool, IsTrue, true, ◌&&◌, nat_lt, nat_le, if◌then◌else◌, Option, None, Some, Result, Ok, Err}
+use Rattle.std.specs.List.{list_all}
 use Rattle.std.specs.Int.{Width, byte_len, from_be_bytes, to_be_bytes}
-use Rattle.op_frames.specs.declared.fault.FrameFault.{FrameFault}
-use Rattle.op_frames.specs.declared.fault.FrameFault.TheVariants as faults
+use Rattle.frame_fields.specs.declared.fault.FrameFault.{FrameFault}
+use Rattle.frame_fields.specs.declared.fault.FrameFault.TheVariants as faults
 
 -- where a reader stands: the place of the next byte, how many bytes its frame still has, and the bytes from there on
 pub record Rest : Type 0 where
@@ -39,6 +40,14 @@ front n r =
 -- the value, where it is allowed; else the field that began at this place is outside its rule
 abbrev pub checked : {A : Type 0} → Bool → ℕ → A → Result A FrameFault
 checked allowed place x = if allowed then Ok x else Err (faults.Bad place)
+
+-- every value
+abbrev pub always : ℕ → Bool
+always n = true
+
+-- from low to high, both allowed
+abbrev pub between : ℕ → ℕ → ℕ → Bool
+between low high n = nat_le low n && nat_le n high
 
 -- one byte
 abbrev pub byte : (ℕ → Bool) → Format ℕ
@@ -77,13 +86,61 @@ f ▸ g = record {
 abbrev pub made : {A B : Type 0} → (A → B) → Result (A × Rest) FrameFault → Result (B × Rest) FrameFault
 made make read = read >>= λ x. Ok (make x.0, x.1)
 
--- every value
-abbrev pub always : ℕ → Bool
-always n = true
+-- a value made of the parts that are spelled
+abbrev pub shaped : {A B : Type 0} → (A → B) → (B → A) → Format A → Format B
+shaped make parts f = record {
+  spell = λ x. f.spell (parts x);
+  allows = λ x. f.allows (parts x);
+  read = λ r. made make (f.read r);
+}
 
--- from low to high, both allowed
-abbrev pub between : ℕ → ℕ → ℕ → Bool
-between low high n = nat_le low n && nat_le n high
+-- one of a few values, told by a byte
+abbrev pub coded : {T : Type 0} → (ℕ → Bool) → (ℕ → T) → (T → ℕ) → Format T
+coded known value code = record {
+  spell = λ x. code x ∷ [];
+  allows = λ x. true;
+  read = λ r. made value ((byte known).read r);
+}
+
+-- n bytes
+abbrev pub fixed : ℕ → Format (List ℕ)
+fixed n = record {
+  spell = λ bytes. bytes;
+  allows = λ bytes. length bytes == n;
+  read = λ r. front n r;
+}
+
+-- n values in a row
+unfoldable pub items_of : {A : Type 0} → Format A → ℕ → Rest → Result (List A × Rest) FrameFault
+items_of f zero r = Ok ([], r)
+items_of f (suc n) r = f.read r >>= λ x. items_of f n x.1 >>= λ xs. Ok (x.0 ∷ xs.0, xs.1)
+
+-- a number, and so many values
+abbrev pub listed : {A : Type 0} → Format ℕ → Format A → Format (List A)
+listed size f = record {
+  spell = λ xs. size.spell (length xs) ++ flat_map f.spell xs;
+  allows = λ xs. size.allows (length xs) && list_all f.allows xs;
+  read = λ r. size.read r >>= λ n. items_of f n.0 n.1;
+}
+
+abbrev pub option_spelling : {A : Type 0} → Format A → Option A → List ℕ
+option_spelling f None = 0 ∷ []
+option_spelling f (Some x) = 1 ∷ f.spell x
+
+abbrev pub option_allowed : {A : Type 0} → Format A → Option A → Bool
+option_allowed f None = true
+option_allowed f (Some x) = f.allows x
+
+abbrev pub option_behind : {A : Type 0} → Format A → ℕ → Rest → Result (Option A × Rest) FrameFault
+option_behind f code r = if code == 0 then Ok (None, r) else made Some (f.read r)
+
+-- a value, if there is one: the byte 0, or 1 and the value
+abbrev pub optional : {A : Type 0} → Format A → Format (Option A)
+optional f = record {
+  spell = option_spelling f;
+  allows = option_allowed f;
+  read = λ r. (byte (between 0 1)).read r >>= λ code. option_behind f code.0 code.1;
+}
 
 -- What a function returned, seen by view, is what reading gives, unless memory ran out.
 abbrev pub Fails : {B : Type 0} → FrameFault → Result B FrameFault → Type 0
@@ -94,3 +151,8 @@ Fails (faults.Bad place) read = read ≡ Err (faults.Bad place)
 abbrev pub Gives : {A B : Type 0} → (A → B) → Result A FrameFault → Result B FrameFault → Type 0
 Gives view (Ok x) read = read ≡ Ok (view x)
 Gives view (Err e) read = Fails e read
+
+-- what is spelled is read again, whatever follows it
+abbrev pub ReadsBack : {A : Type 0} → Format A → Type 0
+ReadsBack {A} f = (x : A) (place room : ℕ) (rest : List ℕ) → IsTrue (f.allows x) → length (f.spell x) ≤ room
+    → f.read (record { place = place; room = room; bytes = f.spell x ++ rest }) ≡ Ok (x, record { place = place + length (f.spell x); room = room - length (f.spell x); bytes = rest })

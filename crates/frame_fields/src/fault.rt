@@ -1,5 +1,5 @@
 ghost use Rattle.std.specs.Prelude.{◌≡◌};
-ghost use Rattle.op_frames.specs.declared.fault.FrameFault.TheVariants.{Memory};
+ghost use Rattle.frame_fields.specs.declared.fault.FrameFault.TheVariants.{Memory};
 
 use std::alloc::{AllocError, AllocFailed};
 

@@ -1,10 +1,10 @@
 -- A byte that says which fields follow, and those fields.
 use Rattle.std.proofs.Common.{◌≡◌, ℕ, suc, ◌+◌, ◌-◌, ◌≤◌, Bool, true, false, ◌&&◌, ◌||◌, ◌⊎◌, cond, eqb, ltb, leb, List, [], ◌∷◌, ◌++◌, length, Result, Ok, refl, sym, ap, ap₂, subst, ◌∙◌, inl, inr, arith}
 use Rattle.std.proofs.lemmas.Bool.{eqb-true, eqb-false, eq-eqb, leb-true, leb-false, le-leb, and_parts, and_from}
-use Rattle.op_frames.specs.declared.fault.FrameFault.{FrameFault}
-use Rattle.op_frames.specs.Format.{Rest, ◌>>=◌, Format, byte, made, between}
-use Rattle.op_frames.proofs.Within.{cond_has, stand, Within, Within-then, stayed}
-use Rattle.op_frames.proofs.Formats.{IsBytes, On, On-then, On-map, Goes, Goes-then, behind, with_behind, Took, Took-then, IsFormat, byte_is}
+use Rattle.frame_fields.specs.declared.fault.FrameFault.{FrameFault}
+use Rattle.frame_fields.specs.Format.{Rest, ◌>>=◌, Format, byte, made, between}
+use Rattle.frame_fields.proofs.Within.{cond_has, stand, Within, Within-then, stayed}
+use Rattle.frame_fields.proofs.Formats.{IsBytes, On, On-then, On-map, Goes, Goes-then, behind, with_behind, Took, Took-then, IsFormat, byte_is}
 
 -- what is spelled by the code and the fields of f, which have at most limit bytes
 pub record IsCase {T A : Type 0} (limit : ℕ) (spell : T → List ℕ) (allows : T → Bool) (code : ℕ) (f : Format A) (make : A → T) : Type 0 where

@@ -1,0 +1,4 @@
+pub mod Fields
+pub mod Format
+pub mod Frames
+pub mod Unread
