@@ -1,3 +1,4 @@
 pub mod Operations
+pub mod Replies
 pub mod Replay
 pub mod Answers

@@ -1,17 +1,20 @@
-//! Frames of operations and of calls, read from the front of some bytes.
+//! Frames of operations, of calls and of replies, read from the front of some bytes.
 ghost use Rattle.std.specs.Prelude.{◌≡◌, ◌+◌, ◌++◌, ◌≤◌, List, ℕ, length, take, IsTrue, IfOk, Ok};
 ghost use Rattle.op_frames.specs.declared.operation.Op.{Op};
 ghost use Rattle.op_frames.specs.declared.operation.Step.{Step};
+ghost use Rattle.op_frames.specs.declared.reply.Reply.{Reply};
 ghost use Rattle.op_frames.specs.declared.operation.Step.TheVariants.{Call};
 ghost use Rattle.frame_fields.specs.Format.{Gives, made};
 ghost use Rattle.op_frames.specs.Operations.{call_fields, op_field, step_behind, step_field, is_op, is_step};
 ghost use Rattle.frame_fields.specs.Frames.{body_at, end_at, frame_of, read_frame, EndsInside, StandsInFront};
 ghost use Rattle.op_frames.specs.Replay.{Replays};
+ghost use Rattle.op_frames.specs.Replies.{reply_field, is_reply};
 ghost use Rattle.frame_fields.specs.Unread.{rest_of};
 
 use crate::codes::op_of;
 use crate::flags::kind_of;
-use crate::{FrameFault, Op, Step};
+use crate::tags::reply_of;
+use crate::{FrameFault, Op, Reply, Step};
 use frame_fields::fields::{self, Unread};
 use frame_fields::framing::{body_of, end_of};
 use std::alloc::Global;
@@ -68,6 +71,16 @@ fn step_frame_of(alloc: Global, bytes: &[u8]) -> Result<(Step, usize), FrameFaul
     Ok((step, length))
 }
 
+#[tactic(auto, unfolding(frame_fields::specs::Frames::read_frame))]
+fn reply_frame_of(alloc: Global, bytes: &[u8]) -> Result<(Reply, usize), FrameFault>
+    ensures { Gives (λ x. x) result (read_frame reply_field bytes.now) }
+{
+    let body = body_of(bytes)?;
+    let (reply, rest) = reply_of(alloc, body)?;
+    let length = end_of(rest)?;
+    Ok((reply, length))
+}
+
 /// The operation whose frame, as a caller of a server sends it, stands in front, and the frame's length in bytes.
 /// Bytes may follow it.
 pub fn decode_op(alloc: Global, bytes: &[u8]) -> Result<(Op, usize), FrameFault>
@@ -102,4 +115,20 @@ pub fn decode_call(alloc: Global, bytes: &[u8]) -> Result<(Step, usize), FrameFa
     ensures replay { (place : ℕ) (rest : List ℕ) → Replays result place bytes.now rest }
 {
     step_frame_of(alloc, bytes)
+}
+
+/// The reply whose frame, as a server writes it, stands in front, and the frame's length in bytes. Bytes may follow it.
+pub fn decode_reply(alloc: Global, bytes: &[u8]) -> Result<(Reply, usize), FrameFault>
+    // What is read stands there, each byte of it, and is within the field rules.
+    ensures found { IfOk result (λ x. StandsInFront reply_field bytes.now x.0 x.1) }
+    // What stands there is read, unless memory runs out.
+    ensures only { (reply : Reply) (rest : List ℕ) → IsTrue (is_reply reply) → bytes.now ≡ frame_of reply_field reply ++ rest
+        → Gives (λ x. x) result (Ok (reply, length (frame_of reply_field reply))) }
+    // Which fault it is: `Short` and `Bad` by the rule of fields, read from the left.
+    ensures exact { Gives (λ x. x) result (read_frame reply_field bytes.now) }
+    // Bytes are missing only where they end before the frame does, and a fault lies in the longest frame.
+    ensures short { result ≡ Err FrameFault.Short → EndsInside bytes.now }
+    ensures near { (place : ℕ) → result ≡ Err (FrameFault.Bad place) → place ≤ 4 + 262144 }
+{
+    reply_frame_of(alloc, bytes)
 }

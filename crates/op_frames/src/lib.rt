@@ -9,12 +9,14 @@ mod laws;
 mod lists;
 mod operation;
 mod reply;
+mod reply_fields;
 mod shapes;
+mod tags;
 
-pub use decode::{decode_call, decode_op};
+pub use decode::{decode_call, decode_op, decode_reply};
 pub use encode::{encode_answer, encode_bad_input, encode_reply};
 pub use frame_fields::FrameFault;
-pub use laws::{op_frames_differ, step_frames_differ};
+pub use laws::{op_frames_differ, replies_fit, reply_frames_differ, step_frames_differ};
 pub use lists::{DirEntryList, NameList};
 pub use operation::{Op, SetFlag, Step};
 pub use reply::{Attr, Cause, DirEntry, Reply};
