@@ -1,11 +1,14 @@
-//! Frames of replies and of a replay's answers.
+//! Frames of operations, of replies and of a replay's answers.
 ghost use Rattle.std.specs.Prelude.{◌≡◌, ◌++◌, ◌≤◌, ◌∷◌, length, IsTrue, IfOk, OnOk};
 ghost use Rattle.std.specs.List.{list_all};
 ghost use Rattle.op_frames.specs.declared.reply.Reply.TheVariants as replies;
+ghost use Rattle.frame_fields.specs.Frames.{frame_of};
+ghost use Rattle.op_frames.specs.Operations.{op_field, is_op};
 ghost use Rattle.op_frames.specs.Replies.{attr_field, entry_field, entries_field, names_field, cause_code, reply_spelling};
 ghost use Rattle.op_frames.specs.Answers.{is_short_name, has_short_name, has_short_data, reply_frame, answer_frame, bad_input_frame};
 
-use crate::{Attr, Cause, DirEntry, DirEntryList, NameList, Reply};
+use crate::put_op::put_op;
+use crate::{Attr, Cause, DirEntry, DirEntryList, NameList, Op, Reply};
 use frame_fields::framing::frame_around;
 use frame_fields::writers::{
     put_data, put_digest, put_digest_or_none, put_flag, put_item_count, put_mode, put_node_kind,
@@ -173,6 +176,17 @@ fn put_reply(out: &mut ByteList, reply: &Reply) -> Result<(), AllocError>
         Reply::Fault(cause) => put_cause(out, *cause),
         Reply::Lost { object, kept, got } => put_lost(out, *object, kept, got),
     }
+}
+
+/// The frame of an operation, as a caller of a server sends it.
+#[tactic(auto, unfolding(crate::specs::Operations::op_field))]
+pub fn encode_op(alloc: Global, op: &Op) -> Result<ByteList, AllocError>
+    requires { IsTrue (is_op op.now) }
+    ensures { IfOk result (λ b. b ≡ frame_of op_field op.now) }
+{
+    let mut body = ByteList::new(alloc);
+    put_op(&mut body, op)?;
+    frame_around(alloc, &body)
 }
 
 /// The bare frame of a reply, as a server writes it.

@@ -8,13 +8,15 @@ mod flags;
 mod laws;
 mod lists;
 mod operation;
+mod put_fields;
+mod put_op;
 mod reply;
 mod reply_fields;
 mod shapes;
 mod tags;
 
 pub use decode::{decode_call, decode_op, decode_reply};
-pub use encode::{encode_answer, encode_bad_input, encode_reply};
+pub use encode::{encode_answer, encode_bad_input, encode_op, encode_reply};
 pub use frame_fields::FrameFault;
 pub use laws::{op_frames_differ, replies_fit, reply_frames_differ, step_frames_differ};
 pub use lists::{DirEntryList, NameList};
