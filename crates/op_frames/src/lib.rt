@@ -22,6 +22,3 @@ pub use laws::{op_frames_differ, replies_fit, reply_frames_differ, step_frames_d
 pub use lists::{DirEntryList, NameList};
 pub use operation::{Op, SetFlag, Step};
 pub use reply::{Attr, Cause, DirEntry, Reply};
-
-#[cfg(test)]
-mod tests;
