@@ -30,8 +30,11 @@ pub struct Unread<'a> {
     pub bytes: &'a [u8],
 }
 
+/// A value and where the reader stands behind it, or the first fault.
+pub type Found<'a, T> = Result<(T, Unread<'a>), FrameFault>;
+
 /// So many bytes.
-pub fn front_of(n: u32, unread: Unread<'_>) -> Result<(&[u8], Unread<'_>), FrameFault>
+pub fn front_of(n: u32, unread: Unread<'_>) -> Found<'_, &[u8]>
     ensures read { Gives (λ x. (x.0.now, rest_of x.1)) result (front n (rest_of unread.entry)) }
     ensures len { IfOk result (λ x. length x.0.now ≡ n) }
 {
@@ -52,7 +55,7 @@ pub fn front_of(n: u32, unread: Unread<'_>) -> Result<(&[u8], Unread<'_>), Frame
     ))
 }
 
-pub fn byte_of(unread: Unread<'_>) -> Result<(u8, Unread<'_>), FrameFault>
+pub fn byte_of(unread: Unread<'_>) -> Found<'_, u8>
     ensures { Gives (λ x. (x.0, rest_of x.1)) result ((byte always).read (rest_of unread.entry)) }
 {
     let (bytes, unread) = front_of(1, unread)?;
@@ -60,7 +63,7 @@ pub fn byte_of(unread: Unread<'_>) -> Result<(u8, Unread<'_>), FrameFault>
 }
 
 /// A byte from `low` to `high`.
-pub fn u8_between(low: u8, high: u8, unread: Unread<'_>) -> Result<(u8, Unread<'_>), FrameFault>
+pub fn u8_between(low: u8, high: u8, unread: Unread<'_>) -> Found<'_, u8>
     ensures { Gives (λ x. (x.0, rest_of x.1)) result ((byte (between low high)).read (rest_of unread.entry)) }
 {
     let (number, after) = byte_of(unread)?;
@@ -87,7 +90,7 @@ fn u64_from(bytes: &[u8]) -> u64
 }
 
 #[tactic(auto, unfolding(crate::specs::Fields::u16_field))]
-pub fn u16_of(unread: Unread<'_>) -> Result<(u16, Unread<'_>), FrameFault>
+pub fn u16_of(unread: Unread<'_>) -> Found<'_, u16>
     ensures { Gives (λ x. (x.0, rest_of x.1)) result (u16_field.read (rest_of unread.entry)) }
 {
     let (bytes, unread) = front_of(2, unread)?;
@@ -95,7 +98,7 @@ pub fn u16_of(unread: Unread<'_>) -> Result<(u16, Unread<'_>), FrameFault>
 }
 
 /// A number of two bytes, up to `high`.
-pub fn u16_up_to(high: u16, unread: Unread<'_>) -> Result<(u16, Unread<'_>), FrameFault>
+pub fn u16_up_to(high: u16, unread: Unread<'_>) -> Found<'_, u16>
     ensures { Gives (λ x. (x.0, rest_of x.1)) result ((number w16 (between 0 high)).read (rest_of unread.entry)) }
 {
     let (bytes, after) = front_of(2, unread)?;
@@ -107,7 +110,7 @@ pub fn u16_up_to(high: u16, unread: Unread<'_>) -> Result<(u16, Unread<'_>), Fra
 }
 
 #[tactic(auto, unfolding(crate::specs::Fields::u32_field))]
-pub fn u32_of(unread: Unread<'_>) -> Result<(u32, Unread<'_>), FrameFault>
+pub fn u32_of(unread: Unread<'_>) -> Found<'_, u32>
     ensures { Gives (λ x. (x.0, rest_of x.1)) result (u32_field.read (rest_of unread.entry)) }
 {
     let (bytes, unread) = front_of(4, unread)?;
@@ -115,7 +118,7 @@ pub fn u32_of(unread: Unread<'_>) -> Result<(u32, Unread<'_>), FrameFault>
 }
 
 #[tactic(auto, unfolding(crate::specs::Fields::u64_field))]
-pub fn u64_of(unread: Unread<'_>) -> Result<(u64, Unread<'_>), FrameFault>
+pub fn u64_of(unread: Unread<'_>) -> Found<'_, u64>
     ensures { Gives (λ x. (x.0, rest_of x.1)) result (u64_field.read (rest_of unread.entry)) }
 {
     let (bytes, unread) = front_of(8, unread)?;
@@ -123,7 +126,7 @@ pub fn u64_of(unread: Unread<'_>) -> Result<(u64, Unread<'_>), FrameFault>
 }
 
 /// A number from `low` to `high`.
-pub fn u64_between(low: u64, high: u64, unread: Unread<'_>) -> Result<(u64, Unread<'_>), FrameFault>
+pub fn u64_between(low: u64, high: u64, unread: Unread<'_>) -> Found<'_, u64>
     ensures { Gives (λ x. (x.0, rest_of x.1)) result ((number w64 (between low high)).read (rest_of unread.entry)) }
 {
     let (bytes, after) = front_of(8, unread)?;
@@ -135,21 +138,21 @@ pub fn u64_between(low: u64, high: u64, unread: Unread<'_>) -> Result<(u64, Unre
 }
 
 #[tactic(auto, unfolding(crate::specs::Fields::pass_field))]
-pub fn pass_of(unread: Unread<'_>) -> Result<(u64, Unread<'_>), FrameFault>
+pub fn pass_of(unread: Unread<'_>) -> Found<'_, u64>
     ensures { Gives (λ x. (x.0, rest_of x.1)) result (pass_field.read (rest_of unread.entry)) }
 {
     u64_between(1, LIMIT - 1, unread)
 }
 
 #[tactic(auto, unfolding(crate::specs::Fields::time_field))]
-pub fn time_of(unread: Unread<'_>) -> Result<(u64, Unread<'_>), FrameFault>
+pub fn time_of(unread: Unread<'_>) -> Found<'_, u64>
     ensures { Gives (λ x. (x.0, rest_of x.1)) result (time_field.read (rest_of unread.entry)) }
 {
     u64_between(0, LIMIT - 1, unread)
 }
 
 /// A number of four bytes from `low` to `high`.
-pub fn u32_between(low: u32, high: u32, unread: Unread<'_>) -> Result<(u32, Unread<'_>), FrameFault>
+pub fn u32_between(low: u32, high: u32, unread: Unread<'_>) -> Found<'_, u32>
     ensures { Gives (λ x. (x.0, rest_of x.1)) result ((number w32 (between low high)).read (rest_of unread.entry)) }
 {
     let (bytes, after) = front_of(4, unread)?;
@@ -161,21 +164,21 @@ pub fn u32_between(low: u32, high: u32, unread: Unread<'_>) -> Result<(u32, Unre
 }
 
 #[tactic(auto, unfolding(crate::specs::Frames::length_field))]
-pub fn length_of(unread: Unread<'_>) -> Result<(u32, Unread<'_>), FrameFault>
+pub fn length_of(unread: Unread<'_>) -> Found<'_, u32>
     ensures { Gives (λ x. (x.0, rest_of x.1)) result (length_field.read (rest_of unread.entry)) }
 {
     u32_between(1, MAX_BODY, unread)
 }
 
 #[tactic(auto, unfolding(crate::specs::Fields::data_length_field))]
-fn data_length_of(unread: Unread<'_>) -> Result<(u32, Unread<'_>), FrameFault>
+fn data_length_of(unread: Unread<'_>) -> Found<'_, u32>
     ensures { Gives (λ x. (x.0, rest_of x.1)) result (data_length_field.read (rest_of unread.entry)) }
 {
     u32_between(0, MAX_DATA, unread)
 }
 
 #[tactic(auto, unfolding(crate::specs::Fields::name_field))]
-pub fn name_of(alloc: Global, unread: Unread<'_>) -> Result<(ByteList, Unread<'_>), FrameFault>
+pub fn name_of(alloc: Global, unread: Unread<'_>) -> Found<'_, ByteList>
     ensures { Gives (λ x. (x.0, rest_of x.1)) result (name_field.read (rest_of unread.entry)) }
 {
     let (len, unread) = u16_of(unread)?;
@@ -184,7 +187,7 @@ pub fn name_of(alloc: Global, unread: Unread<'_>) -> Result<(ByteList, Unread<'_
 }
 
 #[tactic(auto, unfolding(crate::specs::Fields::data_field))]
-pub fn data_of(alloc: Global, unread: Unread<'_>) -> Result<(ByteList, Unread<'_>), FrameFault>
+pub fn data_of(alloc: Global, unread: Unread<'_>) -> Found<'_, ByteList>
     ensures { Gives (λ x. (x.0, rest_of x.1)) result (data_field.read (rest_of unread.entry)) }
 {
     let (len, unread) = data_length_of(unread)?;
@@ -194,7 +197,7 @@ pub fn data_of(alloc: Global, unread: Unread<'_>) -> Result<(ByteList, Unread<'_
 
 /// The permission bits of a node.
 #[tactic(auto, unfolding(crate::specs::Fields::mode_field))]
-pub fn mode_of(unread: Unread<'_>) -> Result<(u16, Unread<'_>), FrameFault>
+pub fn mode_of(unread: Unread<'_>) -> Found<'_, u16>
     ensures { Gives (λ x. (x.0, rest_of x.1)) result (mode_field.read (rest_of unread.entry)) }
 {
     u16_up_to(4095, unread)
@@ -202,7 +205,7 @@ pub fn mode_of(unread: Unread<'_>) -> Result<(u16, Unread<'_>), FrameFault>
 
 /// How many items a list has.
 #[tactic(auto, unfolding(crate::specs::Fields::item_count_field))]
-pub fn item_count_of(unread: Unread<'_>) -> Result<(u16, Unread<'_>), FrameFault>
+pub fn item_count_of(unread: Unread<'_>) -> Found<'_, u16>
     ensures { Gives (λ x. (x.0, rest_of x.1)) result (item_count_field.read (rest_of unread.entry)) }
 {
     u16_up_to(256, unread)
@@ -210,10 +213,7 @@ pub fn item_count_of(unread: Unread<'_>) -> Result<(u16, Unread<'_>), FrameFault
 
 /// A name in a list.
 #[tactic(auto, unfolding(crate::specs::Fields::short_name_field))]
-pub fn short_name_of(
-    alloc: Global,
-    unread: Unread<'_>,
-) -> Result<(ByteList, Unread<'_>), FrameFault>
+pub fn short_name_of(alloc: Global, unread: Unread<'_>) -> Found<'_, ByteList>
     ensures { Gives (λ x. (x.0, rest_of x.1)) result (short_name_field.read (rest_of unread.entry)) }
 {
     let (len, unread) = u16_up_to(255, unread)?;
@@ -222,7 +222,7 @@ pub fn short_name_of(
 }
 
 #[tactic(auto, unfolding(crate::specs::Fields::digest_field))]
-pub fn digest_of(unread: Unread<'_>) -> Result<([u8; 32], Unread<'_>), FrameFault>
+pub fn digest_of(unread: Unread<'_>) -> Found<'_, [u8; 32]>
     ensures { Gives (λ x. (x.0, rest_of x.1)) result (digest_field.read (rest_of unread.entry)) }
 {
     let (bytes, unread) = front_of(32, unread)?;
@@ -233,7 +233,7 @@ pub fn digest_of(unread: Unread<'_>) -> Result<([u8; 32], Unread<'_>), FrameFaul
 
 /// A digest, if there is one.
 #[tactic(auto, unfolding(crate::specs::Fields::digest_or_none_field))]
-pub fn digest_or_none_of(unread: Unread<'_>) -> Result<(Option<[u8; 32]>, Unread<'_>), FrameFault>
+pub fn digest_or_none_of(unread: Unread<'_>) -> Found<'_, Option<[u8; 32]>>
     ensures { Gives (λ x. (x.0, rest_of x.1)) result (digest_or_none_field.read (rest_of unread.entry)) }
 {
     let (code, unread) = u8_between(0, 1, unread)?;
@@ -245,7 +245,7 @@ pub fn digest_or_none_of(unread: Unread<'_>) -> Result<(Option<[u8; 32]>, Unread
 }
 
 #[tactic(auto, unfolding(crate::specs::Fields::node_kind_field))]
-pub fn node_kind_of(unread: Unread<'_>) -> Result<(Kind, Unread<'_>), FrameFault>
+pub fn node_kind_of(unread: Unread<'_>) -> Found<'_, Kind>
     ensures { Gives (λ x. (x.0, rest_of x.1)) result (node_kind_field.read (rest_of unread.entry)) }
 {
     let (code, after) = byte_of(unread)?;
@@ -259,7 +259,7 @@ pub fn node_kind_of(unread: Unread<'_>) -> Result<(Kind, Unread<'_>), FrameFault
 
 /// A bit as a byte.
 #[tactic(auto, unfolding(crate::specs::Fields::flag_field))]
-pub fn flag_of(unread: Unread<'_>) -> Result<(bool, Unread<'_>), FrameFault>
+pub fn flag_of(unread: Unread<'_>) -> Found<'_, bool>
     ensures { Gives (λ x. (x.0, rest_of x.1)) result (flag_field.read (rest_of unread.entry)) }
 {
     let (code, unread) = u8_between(0, 1, unread)?;

@@ -6,8 +6,11 @@ use byteorder::{BigEndian, ByteOrder};
 use s3_base::{ByteList, Kind};
 use std::alloc::AllocError;
 
+/// All was written, or there was no memory for it.
+pub type Put = Result<(), AllocError>;
+
 #[tactic(auto, unfolding(crate::specs::Fields::u16_field))]
-pub fn put_u16(out: &mut ByteList, number: u16) -> Result<(), AllocError>
+pub fn put_u16(out: &mut ByteList, number: u16) -> Put
     ensures { OnOk result (out.new ≡ out.old ++ u16_field.spell number) }
 {
     let mut bytes = [0; 2];
@@ -16,7 +19,7 @@ pub fn put_u16(out: &mut ByteList, number: u16) -> Result<(), AllocError>
 }
 
 #[tactic(auto, unfolding(crate::specs::Fields::u32_field))]
-pub fn put_u32(out: &mut ByteList, number: u32) -> Result<(), AllocError>
+pub fn put_u32(out: &mut ByteList, number: u32) -> Put
     ensures { OnOk result (out.new ≡ out.old ++ u32_field.spell number) }
 {
     let mut bytes = [0; 4];
@@ -25,7 +28,7 @@ pub fn put_u32(out: &mut ByteList, number: u32) -> Result<(), AllocError>
 }
 
 #[tactic(auto, unfolding(crate::specs::Fields::u64_field))]
-pub fn put_u64(out: &mut ByteList, number: u64) -> Result<(), AllocError>
+pub fn put_u64(out: &mut ByteList, number: u64) -> Put
     ensures { OnOk result (out.new ≡ out.old ++ u64_field.spell number) }
 {
     let mut bytes = [0; 8];
@@ -34,7 +37,7 @@ pub fn put_u64(out: &mut ByteList, number: u64) -> Result<(), AllocError>
 }
 
 #[tactic(auto, unfolding(crate::specs::Fields::u32_field, crate::specs::Fields::data_field, crate::specs::Fields::data_length_field))]
-pub fn put_data(out: &mut ByteList, bytes: &ByteList) -> Result<(), AllocError>
+pub fn put_data(out: &mut ByteList, bytes: &ByteList) -> Put
     requires { length bytes.now ≤ 131072 }
     ensures { OnOk result (out.new ≡ out.old ++ data_field.spell bytes.now) }
 {
@@ -43,7 +46,7 @@ pub fn put_data(out: &mut ByteList, bytes: &ByteList) -> Result<(), AllocError>
 }
 
 #[tactic(auto, unfolding(crate::specs::Fields::name_field))]
-pub fn put_name(out: &mut ByteList, name: &ByteList) -> Result<(), AllocError>
+pub fn put_name(out: &mut ByteList, name: &ByteList) -> Put
     requires { length name.now < 2 ^ 16 }
     ensures { OnOk result (out.new ≡ out.old ++ name_field.spell name.now) }
 {
@@ -52,7 +55,7 @@ pub fn put_name(out: &mut ByteList, name: &ByteList) -> Result<(), AllocError>
 }
 
 #[tactic(auto, unfolding(crate::specs::Fields::node_kind_field))]
-pub fn put_node_kind(out: &mut ByteList, kind: Kind) -> Result<(), AllocError>
+pub fn put_node_kind(out: &mut ByteList, kind: Kind) -> Put
     ensures { OnOk result (out.new ≡ out.old ++ node_kind_field.spell kind) }
 {
     let code = match kind {
@@ -65,7 +68,7 @@ pub fn put_node_kind(out: &mut ByteList, kind: Kind) -> Result<(), AllocError>
 
 /// A bit as a byte.
 #[tactic(auto, unfolding(crate::specs::Fields::flag_field))]
-pub fn put_flag(out: &mut ByteList, flag: bool) -> Result<(), AllocError>
+pub fn put_flag(out: &mut ByteList, flag: bool) -> Put
     ensures { OnOk result (out.new ≡ out.old ++ flag_field.spell flag) }
 {
     out.push(u8::from(flag))
@@ -73,7 +76,7 @@ pub fn put_flag(out: &mut ByteList, flag: bool) -> Result<(), AllocError>
 
 /// A digest, if there is one.
 #[tactic(auto, unfolding(crate::specs::Fields::digest_or_none_field, crate::specs::Fields::digest_field))]
-pub fn put_digest_or_none(out: &mut ByteList, digest: &Option<[u8; 32]>) -> Result<(), AllocError>
+pub fn put_digest_or_none(out: &mut ByteList, digest: &Option<[u8; 32]>) -> Put
     ensures { OnOk result (out.new ≡ out.old ++ digest_or_none_field.spell digest.now) }
 {
     match digest {
@@ -86,7 +89,7 @@ pub fn put_digest_or_none(out: &mut ByteList, digest: &Option<[u8; 32]>) -> Resu
 }
 
 #[tactic(auto, unfolding(crate::specs::Fields::u16_field, crate::specs::Fields::mode_field))]
-pub fn put_mode(out: &mut ByteList, mode: u16) -> Result<(), AllocError>
+pub fn put_mode(out: &mut ByteList, mode: u16) -> Put
     ensures { OnOk result (out.new ≡ out.old ++ mode_field.spell mode) }
 {
     put_u16(out, mode)
@@ -94,7 +97,7 @@ pub fn put_mode(out: &mut ByteList, mode: u16) -> Result<(), AllocError>
 
 /// How many items a list has.
 #[tactic(auto, unfolding(crate::specs::Fields::u16_field, crate::specs::Fields::item_count_field))]
-pub fn put_item_count(out: &mut ByteList, count: u16) -> Result<(), AllocError>
+pub fn put_item_count(out: &mut ByteList, count: u16) -> Put
     ensures { OnOk result (out.new ≡ out.old ++ item_count_field.spell count) }
 {
     put_u16(out, count)
@@ -102,7 +105,7 @@ pub fn put_item_count(out: &mut ByteList, count: u16) -> Result<(), AllocError>
 
 /// A name in a list.
 #[tactic(auto, unfolding(crate::specs::Fields::u16_field, crate::specs::Fields::short_name_field))]
-pub fn put_short_name(out: &mut ByteList, name: &ByteList) -> Result<(), AllocError>
+pub fn put_short_name(out: &mut ByteList, name: &ByteList) -> Put
     requires { length name.now ≤ 255 }
     ensures { OnOk result (out.new ≡ out.old ++ short_name_field.spell name.now) }
 {
@@ -111,7 +114,7 @@ pub fn put_short_name(out: &mut ByteList, name: &ByteList) -> Result<(), AllocEr
 }
 
 #[tactic(auto, unfolding(crate::specs::Fields::digest_field))]
-pub fn put_digest(out: &mut ByteList, digest: &[u8; 32]) -> Result<(), AllocError>
+pub fn put_digest(out: &mut ByteList, digest: &[u8; 32]) -> Put
     ensures { OnOk result (out.new ≡ out.old ++ digest_field.spell digest.now) }
 {
     out.extend_from_slice(digest)

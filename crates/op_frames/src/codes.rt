@@ -5,13 +5,13 @@ ghost use Rattle.op_frames.specs.Operations.{op_to_8, op_to_16, op_to_24, op_to_
 ghost use Rattle.frame_fields.specs.Unread.{rest_of};
 
 use crate::flags::operation_of;
-use crate::{FrameFault, Op, shapes};
-use frame_fields::fields::{self, Unread};
+use crate::{Op, shapes};
+use frame_fields::fields::{self, Found, Unread};
 use std::alloc::Global;
 
 /// The fields behind a code from 1 to 8.
 #[tactic(auto, unfolding(crate::specs::Operations::op_to_8))]
-fn op_up_to_8(alloc: Global, code: u8, unread: Unread<'_>) -> Result<(Op, Unread<'_>), FrameFault>
+fn op_up_to_8(alloc: Global, code: u8, unread: Unread<'_>) -> Found<'_, Op>
     ensures { Gives (λ x. (x.0, rest_of x.1)) result (op_to_8 code (rest_of unread.entry)) }
 {
     match code {
@@ -23,8 +23,17 @@ fn op_up_to_8(alloc: Global, code: u8, unread: Unread<'_>) -> Result<(Op, Unread
             let (inode, unread) = fields::u64_of(unread)?;
             Ok((Op::Getattr { inode }, unread))
         }
-        3 => shapes::chmod_of(unread),
-        4 => shapes::chown_of(unread),
+        3 => {
+            let (inode, unread) = fields::u64_of(unread)?;
+            let (mode, unread) = fields::u16_of(unread)?;
+            Ok((Op::Chmod { inode, mode }, unread))
+        }
+        4 => {
+            let (inode, unread) = fields::u64_of(unread)?;
+            let (uid, unread) = fields::u32_of(unread)?;
+            let (gid, unread) = fields::u32_of(unread)?;
+            Ok((Op::Chown { inode, uid, gid }, unread))
+        }
         5 => {
             let ((inode, mtime), unread) = shapes::inode_and_number(unread)?;
             Ok((Op::Utimes { inode, mtime }, unread))
@@ -40,7 +49,7 @@ fn op_up_to_8(alloc: Global, code: u8, unread: Unread<'_>) -> Result<(Op, Unread
 
 /// From 9 to 16.
 #[tactic(auto, unfolding(crate::specs::Operations::op_to_16))]
-fn op_up_to_16(alloc: Global, code: u8, unread: Unread<'_>) -> Result<(Op, Unread<'_>), FrameFault>
+fn op_up_to_16(alloc: Global, code: u8, unread: Unread<'_>) -> Found<'_, Op>
     ensures { Gives (λ x. (x.0, rest_of x.1)) result (op_to_16 code (rest_of unread.entry)) }
 {
     match code {
@@ -55,14 +64,12 @@ fn op_up_to_16(alloc: Global, code: u8, unread: Unread<'_>) -> Result<(Op, Unrea
         11 => shapes::rename_of(alloc, unread),
         12 => {
             let ((inode, parent, name), unread) = shapes::inode_and_entry(alloc, unread)?;
-            Ok((
-                Op::Link {
-                    inode,
-                    parent,
-                    name,
-                },
-                unread,
-            ))
+            let op = Op::Link {
+                inode,
+                parent,
+                name,
+            };
+            Ok((op, unread))
         }
         13 => shapes::symlink_of(alloc, unread),
         14 => {
@@ -82,7 +89,7 @@ fn op_up_to_16(alloc: Global, code: u8, unread: Unread<'_>) -> Result<(Op, Unrea
 
 /// From 17 to 24.
 #[tactic(auto, unfolding(crate::specs::Operations::op_to_24))]
-fn op_up_to_24(alloc: Global, code: u8, unread: Unread<'_>) -> Result<(Op, Unread<'_>), FrameFault>
+fn op_up_to_24(alloc: Global, code: u8, unread: Unread<'_>) -> Found<'_, Op>
     ensures { Gives (λ x. (x.0, rest_of x.1)) result (op_to_24 code (rest_of unread.entry)) }
 {
     match code {
@@ -111,7 +118,7 @@ fn op_up_to_24(alloc: Global, code: u8, unread: Unread<'_>) -> Result<(Op, Unrea
 
 /// From 25 to 33.
 #[tactic(auto, unfolding(crate::specs::Operations::op_to_33))]
-fn op_up_to_33(alloc: Global, code: u8, unread: Unread<'_>) -> Result<(Op, Unread<'_>), FrameFault>
+fn op_up_to_33(alloc: Global, code: u8, unread: Unread<'_>) -> Found<'_, Op>
     ensures { Gives (λ x. (x.0, rest_of x.1)) result (op_to_33 code (rest_of unread.entry)) }
 {
     match code {
@@ -121,14 +128,12 @@ fn op_up_to_33(alloc: Global, code: u8, unread: Unread<'_>) -> Result<(Op, Unrea
         }
         26 => {
             let ((source, parent, name), unread) = shapes::inode_and_entry(alloc, unread)?;
-            Ok((
-                Op::CopyTree {
-                    source,
-                    parent,
-                    name,
-                },
-                unread,
-            ))
+            let op = Op::CopyTree {
+                source,
+                parent,
+                name,
+            };
+            Ok((op, unread))
         }
         27 => {
             let (inode, unread) = fields::u64_of(unread)?;
@@ -151,11 +156,7 @@ fn op_up_to_33(alloc: Global, code: u8, unread: Unread<'_>) -> Result<(Op, Unrea
 
 /// The fields behind the code of an operation.
 #[tactic(auto, unfolding(crate::specs::Operations::op_behind))]
-fn op_behind_code(
-    alloc: Global,
-    code: u8,
-    unread: Unread<'_>,
-) -> Result<(Op, Unread<'_>), FrameFault>
+fn op_behind_code(alloc: Global, code: u8, unread: Unread<'_>) -> Found<'_, Op>
     ensures { Gives (λ x. (x.0, rest_of x.1)) result (op_behind code (rest_of unread.entry)) }
 {
     match code {
@@ -168,7 +169,7 @@ fn op_behind_code(
 
 /// An operation: its code, and the fields behind it.
 #[tactic(auto, unfolding(crate::specs::Operations::op_field))]
-pub fn op_of(alloc: Global, unread: Unread<'_>) -> Result<(Op, Unread<'_>), FrameFault>
+pub fn op_of(alloc: Global, unread: Unread<'_>) -> Found<'_, Op>
     ensures { Gives (λ x. (x.0, rest_of x.1)) result (op_field.read (rest_of unread.entry)) }
 {
     let (code, unread) = operation_of(unread)?;

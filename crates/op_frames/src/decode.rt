@@ -15,11 +15,11 @@ use crate::codes::op_of;
 use crate::flags::kind_of;
 use crate::tags::reply_of;
 use crate::{FrameFault, Op, Reply, Step};
-use frame_fields::fields::{self, Unread};
+use frame_fields::fields::{self, Found, Unread};
 use frame_fields::framing::{body_of, end_of};
 use std::alloc::Global;
 
-fn call_of(alloc: Global, unread: Unread<'_>) -> Result<(Step, Unread<'_>), FrameFault>
+fn call_of(alloc: Global, unread: Unread<'_>) -> Found<'_, Step>
     ensures { Gives (λ x. (x.0, rest_of x.1)) result (made (λ x. Call x.0 x.1.0 x.1.1) (call_fields.read (rest_of unread.entry))) }
 {
     let (pass, unread) = fields::pass_of(unread)?;
@@ -30,11 +30,7 @@ fn call_of(alloc: Global, unread: Unread<'_>) -> Result<(Step, Unread<'_>), Fram
 
 /// The fields behind the kind of a step.
 #[tactic(auto, unfolding(crate::specs::Operations::step_behind))]
-fn step_behind_kind(
-    alloc: Global,
-    kind: u8,
-    unread: Unread<'_>,
-) -> Result<(Step, Unread<'_>), FrameFault>
+fn step_behind_kind(alloc: Global, kind: u8, unread: Unread<'_>) -> Found<'_, Step>
     ensures { Gives (λ x. (x.0, rest_of x.1)) result (step_behind kind (rest_of unread.entry)) }
 {
     match kind {
@@ -44,7 +40,7 @@ fn step_behind_kind(
 }
 
 #[tactic(auto, unfolding(crate::specs::Operations::step_field))]
-fn step_of(alloc: Global, unread: Unread<'_>) -> Result<(Step, Unread<'_>), FrameFault>
+fn step_of(alloc: Global, unread: Unread<'_>) -> Found<'_, Step>
     ensures { Gives (λ x. (x.0, rest_of x.1)) result (step_field.read (rest_of unread.entry)) }
 {
     let (kind, unread) = kind_of(unread)?;

@@ -4,17 +4,14 @@ ghost use Rattle.std.specs.List.{list_all};
 ghost use Rattle.op_frames.specs.declared.reply.Reply.TheVariants as replies;
 ghost use Rattle.frame_fields.specs.Frames.{frame_of};
 ghost use Rattle.op_frames.specs.Operations.{op_field, is_op};
-ghost use Rattle.op_frames.specs.Replies.{attr_field, entry_field, entries_field, names_field, cause_code, reply_spelling};
+ghost use Rattle.op_frames.specs.Replies.{attr_field, entry_field, entries_field, names_field, cause_field, reply_spelling};
 ghost use Rattle.op_frames.specs.Answers.{is_short_name, has_short_name, has_short_data, reply_frame, answer_frame, bad_input_frame};
 
 use crate::put_op::put_op;
 use crate::{Attr, Cause, DirEntry, DirEntryList, NameList, Op, Reply};
 use frame_fields::framing::frame_around;
-use frame_fields::writers::{
-    put_data, put_digest, put_digest_or_none, put_flag, put_item_count, put_mode, put_node_kind,
-    put_short_name, put_u16, put_u32, put_u64,
-};
-use s3_base::{ByteList, Errno};
+use frame_fields::writers::{self, Put, put_u64};
+use s3_base::ByteList;
 use std::alloc::{AllocError, Global};
 
 /// The tag of a replay's answer that holds a reply.
@@ -23,126 +20,87 @@ const REPLY: u8 = 1;
 /// The tag of the answer at which the input is refused.
 const BAD_INPUT: u8 = 27;
 
-fn code_of_cause(cause: Cause) -> u8
-    ensures { result ≡ cause_code cause }
-{
-    match cause {
-        Cause::Link => 1,
-        Cause::Keeper => 2,
-        Cause::Disk => 3,
-        Cause::Memory => 4,
-    }
-}
-
-fn put_attr(out: &mut ByteList, attr: &Attr) -> Result<(), AllocError>
+fn put_attr(out: &mut ByteList, attr: &Attr) -> Put
     ensures { OnOk result (out.new ≡ out.old ++ attr_field.spell attr.now) }
 {
     put_u64(out, attr.inode)?;
-    put_node_kind(out, attr.kind)?;
-    put_mode(out, attr.mode)?;
-    put_u32(out, attr.uid)?;
-    put_u32(out, attr.gid)?;
+    writers::put_node_kind(out, attr.kind)?;
+    writers::put_mode(out, attr.mode)?;
+    writers::put_u32(out, attr.uid)?;
+    writers::put_u32(out, attr.gid)?;
     put_u64(out, attr.links)?;
     put_u64(out, attr.size)?;
     put_u64(out, attr.mtime)?;
     put_u64(out, attr.ctime)?;
-    put_flag(out, attr.locked)
+    writers::put_flag(out, attr.locked)
 }
 
-fn put_names(out: &mut ByteList, names: &NameList) -> Result<(), AllocError>
+fn put_names(out: &mut ByteList, names: &NameList) -> Put
     requires few { length names.now ≤ 256 }
     requires short { IsTrue (list_all is_short_name names.now) }
     ensures { OnOk result (out.new ≡ out.old ++ names_field.spell names.now) }
 {
-    put_item_count(out, names.len() as u16)?;
+    writers::put_item_count(out, names.len() as u16)?;
     for name in names.as_slice() {
-        put_short_name(out, name)?;
+        writers::put_short_name(out, name)?;
     }
     Ok(())
 }
 
-fn put_entry(out: &mut ByteList, entry: &DirEntry) -> Result<(), AllocError>
+fn put_entry(out: &mut ByteList, entry: &DirEntry) -> Put
     requires { length entry.now.name ≤ 255 }
     ensures { OnOk result (out.new ≡ out.old ++ entry_field.spell entry.now) }
 {
     put_u64(out, entry.inode)?;
-    put_node_kind(out, entry.kind)?;
-    put_short_name(out, &entry.name)
+    writers::put_node_kind(out, entry.kind)?;
+    writers::put_short_name(out, &entry.name)
 }
 
-fn put_entries(out: &mut ByteList, entries: &DirEntryList) -> Result<(), AllocError>
+fn put_entries(out: &mut ByteList, entries: &DirEntryList) -> Put
     requires few { length entries.now ≤ 256 }
     requires short { IsTrue (list_all has_short_name entries.now) }
     ensures { OnOk result (out.new ≡ out.old ++ entries_field.spell entries.now) }
 {
-    put_item_count(out, entries.len() as u16)?;
+    writers::put_item_count(out, entries.len() as u16)?;
     for entry in entries.as_slice() {
         put_entry(out, entry)?;
     }
     Ok(())
 }
 
-fn put_opened(out: &mut ByteList, handle: u64, attr: &Attr) -> Result<(), AllocError>
-    ensures { OnOk result (out.new ≡ out.old ++ reply_spelling (replies.Opened handle attr.now)) }
-{
-    out.push(3)?;
-    put_u64(out, handle)?;
-    put_attr(out, attr)
-}
-
-fn put_count(out: &mut ByteList, count: u32) -> Result<(), AllocError>
-    ensures { OnOk result (out.new ≡ out.old ++ reply_spelling (replies.Count count)) }
-{
-    out.push(5)?;
-    put_u32(out, count)
-}
-
-fn put_stat(
-    out: &mut ByteList,
-    block_size: u32,
-    inodes: u64,
-    entries: u64,
-    bytes: u64,
-) -> Result<(), AllocError>
+fn put_stat(out: &mut ByteList, block_size: u32, inodes: u64, entries: u64, bytes: u64) -> Put
     ensures { OnOk result (out.new ≡ out.old ++ reply_spelling (replies.Stat block_size inodes entries bytes)) }
 {
     out.push(8)?;
-    put_u32(out, block_size)?;
+    writers::put_u32(out, block_size)?;
     put_u64(out, inodes)?;
     put_u64(out, entries)?;
     put_u64(out, bytes)
 }
 
-fn put_errno(out: &mut ByteList, errno: Errno) -> Result<(), AllocError>
-    ensures { OnOk result (out.new ≡ out.old ++ reply_spelling (replies.Errno errno)) }
-{
-    out.push(9)?;
-    put_u16(out, errno.0)
-}
-
 #[tactic(auto, unfolding(crate::specs::Replies::cause_field))]
-fn put_cause(out: &mut ByteList, cause: Cause) -> Result<(), AllocError>
-    ensures { OnOk result (out.new ≡ out.old ++ reply_spelling (replies.Fault cause)) }
+fn put_cause(out: &mut ByteList, cause: Cause) -> Put
+    ensures { OnOk result (out.new ≡ out.old ++ cause_field.spell cause) }
 {
-    out.push(10)?;
-    out.push(code_of_cause(cause))
+    let code = match cause {
+        Cause::Link => 1,
+        Cause::Keeper => 2,
+        Cause::Disk => 3,
+        Cause::Memory => 4,
+    };
+    out.push(code)
 }
 
-fn put_lost(
-    out: &mut ByteList,
-    object: u64,
-    kept: &[u8; 32],
-    got: &Option<[u8; 32]>,
-) -> Result<(), AllocError>
+fn put_lost(out: &mut ByteList, object: u64, kept: &[u8; 32], got: &Option<[u8; 32]>) -> Put
     ensures { OnOk result (out.new ≡ out.old ++ reply_spelling (replies.Lost object kept.now got.now)) }
 {
     out.push(11)?;
     put_u64(out, object)?;
-    put_digest(out, kept)?;
-    put_digest_or_none(out, got)
+    writers::put_digest(out, kept)?;
+    writers::put_digest_or_none(out, got)
 }
 
-fn put_reply(out: &mut ByteList, reply: &Reply) -> Result<(), AllocError>
+fn put_reply(out: &mut ByteList, reply: &Reply) -> Put
     requires { IsTrue (has_short_data reply.now) }
     ensures { OnOk result (out.new ≡ out.old ++ reply_spelling reply.now) }
 {
@@ -152,12 +110,19 @@ fn put_reply(out: &mut ByteList, reply: &Reply) -> Result<(), AllocError>
             out.push(2)?;
             put_attr(out, attr)
         }
-        Reply::Opened { handle, attr } => put_opened(out, *handle, attr),
+        Reply::Opened { handle, attr } => {
+            out.push(3)?;
+            put_u64(out, *handle)?;
+            put_attr(out, attr)
+        }
         Reply::Bytes(bytes) => {
             out.push(4)?;
-            put_data(out, bytes)
+            writers::put_data(out, bytes)
         }
-        Reply::Count(count) => put_count(out, *count),
+        Reply::Count(count) => {
+            out.push(5)?;
+            writers::put_u32(out, *count)
+        }
         Reply::Entries(entries) => {
             out.push(6)?;
             put_entries(out, entries)
@@ -172,8 +137,14 @@ fn put_reply(out: &mut ByteList, reply: &Reply) -> Result<(), AllocError>
             entries,
             bytes,
         } => put_stat(out, *block_size, *inodes, *entries, *bytes),
-        Reply::Errno(errno) => put_errno(out, *errno),
-        Reply::Fault(cause) => put_cause(out, *cause),
+        Reply::Errno(errno) => {
+            out.push(9)?;
+            writers::put_u16(out, errno.0)
+        }
+        Reply::Fault(cause) => {
+            out.push(10)?;
+            put_cause(out, *cause)
+        }
         Reply::Lost { object, kept, got } => put_lost(out, *object, kept, got),
     }
 }

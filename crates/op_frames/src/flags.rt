@@ -5,10 +5,10 @@ ghost use Rattle.frame_fields.specs.Unread.{rest_of};
 ghost use Rattle.op_frames.specs.Operations.{set_flag_field, operation_field, kind_field};
 
 use crate::{FrameFault, SetFlag};
-use frame_fields::fields::{self, Unread};
+use frame_fields::fields::{self, Found, Unread};
 
 #[tactic(auto, unfolding(crate::specs::Operations::set_flag_field))]
-pub fn set_flag_of(unread: Unread<'_>) -> Result<(SetFlag, Unread<'_>), FrameFault>
+pub fn set_flag_of(unread: Unread<'_>) -> Found<'_, SetFlag>
     ensures { Gives (λ x. (x.0, rest_of x.1)) result (set_flag_field.read (rest_of unread.entry)) }
 {
     let (code, after) = fields::byte_of(unread)?;
@@ -21,14 +21,14 @@ pub fn set_flag_of(unread: Unread<'_>) -> Result<(SetFlag, Unread<'_>), FrameFau
 }
 
 #[tactic(auto, unfolding(crate::specs::Operations::operation_field))]
-pub fn operation_of(unread: Unread<'_>) -> Result<(u8, Unread<'_>), FrameFault>
+pub fn operation_of(unread: Unread<'_>) -> Found<'_, u8>
     ensures { Gives (λ x. (x.0, rest_of x.1)) result (operation_field.read (rest_of unread.entry)) }
 {
     fields::u8_between(1, 33, unread)
 }
 
 #[tactic(auto, unfolding(crate::specs::Operations::kind_field))]
-pub fn kind_of(unread: Unread<'_>) -> Result<(u8, Unread<'_>), FrameFault>
+pub fn kind_of(unread: Unread<'_>) -> Found<'_, u8>
     ensures { Gives (λ x. (x.0, rest_of x.1)) result (kind_field.read (rest_of unread.entry)) }
 {
     let (kind, after) = fields::byte_of(unread)?;

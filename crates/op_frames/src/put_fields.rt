@@ -1,26 +1,20 @@
 //! Writers of an operation's code and its fields: of a shape that several operations share, or of one operation.
 ghost use Rattle.std.specs.Prelude.{◌≡◌, ◌++◌, ◌∷◌, IsTrue, OnOk};
-ghost use Rattle.op_frames.specs.Operations.{set_flag_field, lookup_fields, getattr_fields, chmod_fields, chown_fields, utimes_fields, create_fields, rename_fields, link_fields, symlink_fields, read_fields, write_fields, readdir_fields, setxattr_fields, cache_size_fields};
+ghost use Rattle.op_frames.specs.Operations.{set_flag_field, lookup_fields, getattr_fields, utimes_fields, create_fields, rename_fields, link_fields, symlink_fields, read_fields, write_fields, readdir_fields, setxattr_fields};
 
 use crate::SetFlag;
-use frame_fields::writers::{put_data, put_name, put_u16, put_u32, put_u64};
+use frame_fields::writers::{Put, put_data, put_name, put_u16, put_u32, put_u64};
 use s3_base::ByteList;
-use std::alloc::AllocError;
 
 #[tactic(auto, unfolding(crate::specs::Operations::set_flag_field))]
-fn put_set_flag(out: &mut ByteList, flag: SetFlag) -> Result<(), AllocError>
+fn put_set_flag(out: &mut ByteList, flag: SetFlag) -> Put
     ensures { OnOk result (out.new ≡ out.old ++ set_flag_field.spell flag) }
 {
-    let code = match flag {
-        SetFlag::Any => 0,
-        SetFlag::New => 1,
-        SetFlag::Old => 2,
-    };
-    out.push(code)
+    out.push(flag as u8)
 }
 
 /// An inode or a handle.
-pub fn put_inode(out: &mut ByteList, code: u8, inode: u64) -> Result<(), AllocError>
+pub fn put_inode(out: &mut ByteList, code: u8, inode: u64) -> Put
     ensures { OnOk result (out.new ≡ out.old ++ code ∷ getattr_fields.spell inode) }
 {
     out.push(code)?;
@@ -29,12 +23,7 @@ pub fn put_inode(out: &mut ByteList, code: u8, inode: u64) -> Result<(), AllocEr
 
 /// An inode and a name.
 #[tactic(auto, using(frame_fields::proofs::FieldLemmas::name_fits, frame_fields::proofs::FieldLemmas::data_fits))]
-pub fn put_inode_and_name(
-    out: &mut ByteList,
-    code: u8,
-    inode: u64,
-    name: &ByteList,
-) -> Result<(), AllocError>
+pub fn put_inode_and_name(out: &mut ByteList, code: u8, inode: u64, name: &ByteList) -> Put
     requires { IsTrue (lookup_fields.allows (inode, name.now)) }
     ensures { OnOk result (out.new ≡ out.old ++ code ∷ lookup_fields.spell (inode, name.now)) }
 {
@@ -44,34 +33,12 @@ pub fn put_inode_and_name(
 }
 
 /// An inode and a number.
-pub fn put_inode_and_number(
-    out: &mut ByteList,
-    code: u8,
-    inode: u64,
-    number: u64,
-) -> Result<(), AllocError>
+pub fn put_inode_and_number(out: &mut ByteList, code: u8, inode: u64, number: u64) -> Put
     ensures { OnOk result (out.new ≡ out.old ++ code ∷ utimes_fields.spell (inode, number)) }
 {
     out.push(code)?;
     put_u64(out, inode)?;
     put_u64(out, number)
-}
-
-pub fn put_chmod(out: &mut ByteList, inode: u64, mode: u16) -> Result<(), AllocError>
-    ensures { OnOk result (out.new ≡ out.old ++ 3 ∷ chmod_fields.spell (inode, mode)) }
-{
-    out.push(3)?;
-    put_u64(out, inode)?;
-    put_u16(out, mode)
-}
-
-pub fn put_chown(out: &mut ByteList, inode: u64, uid: u32, gid: u32) -> Result<(), AllocError>
-    ensures { OnOk result (out.new ≡ out.old ++ 4 ∷ chown_fields.spell (inode, (uid, gid))) }
-{
-    out.push(4)?;
-    put_u64(out, inode)?;
-    put_u32(out, uid)?;
-    put_u32(out, gid)
 }
 
 /// An entry and its owner: a parent, a name, a mode, a user and a group.
@@ -84,7 +51,7 @@ pub fn put_entry_and_owner(
     mode: u16,
     uid: u32,
     gid: u32,
-) -> Result<(), AllocError>
+) -> Put
     requires { IsTrue (create_fields.allows (parent, (name.now, (mode, (uid, gid))))) }
     ensures { OnOk result (out.new ≡ out.old ++ code ∷ create_fields.spell (parent, (name.now, (mode, (uid, gid))))) }
 {
@@ -103,7 +70,7 @@ pub fn put_rename(
     name: &ByteList,
     new_parent: u64,
     new_name: &ByteList,
-) -> Result<(), AllocError>
+) -> Put
     requires { IsTrue (rename_fields.allows (parent, (name.now, (new_parent, new_name.now)))) }
     ensures { OnOk result (out.new ≡ out.old ++ 11 ∷ rename_fields.spell (parent, (name.now, (new_parent, new_name.now)))) }
 {
@@ -122,7 +89,7 @@ pub fn put_inode_and_entry(
     inode: u64,
     parent: u64,
     name: &ByteList,
-) -> Result<(), AllocError>
+) -> Put
     requires { IsTrue (link_fields.allows (inode, (parent, name.now))) }
     ensures { OnOk result (out.new ≡ out.old ++ code ∷ link_fields.spell (inode, (parent, name.now))) }
 {
@@ -140,7 +107,7 @@ pub fn put_symlink(
     target: &ByteList,
     uid: u32,
     gid: u32,
-) -> Result<(), AllocError>
+) -> Put
     requires { IsTrue (symlink_fields.allows (parent, (name.now, (target.now, (uid, gid))))) }
     ensures { OnOk result (out.new ≡ out.old ++ 13 ∷ symlink_fields.spell (parent, (name.now, (target.now, (uid, gid))))) }
 {
@@ -152,12 +119,7 @@ pub fn put_symlink(
     put_u32(out, gid)
 }
 
-pub fn put_read(
-    out: &mut ByteList,
-    handle: u64,
-    offset: u64,
-    length: u32,
-) -> Result<(), AllocError>
+pub fn put_read(out: &mut ByteList, handle: u64, offset: u64, length: u32) -> Put
     ensures { OnOk result (out.new ≡ out.old ++ 17 ∷ read_fields.spell (handle, (offset, length))) }
 {
     out.push(17)?;
@@ -167,12 +129,7 @@ pub fn put_read(
 }
 
 #[tactic(auto, using(frame_fields::proofs::FieldLemmas::name_fits, frame_fields::proofs::FieldLemmas::data_fits))]
-pub fn put_write(
-    out: &mut ByteList,
-    handle: u64,
-    offset: u64,
-    bytes: &ByteList,
-) -> Result<(), AllocError>
+pub fn put_write(out: &mut ByteList, handle: u64, offset: u64, bytes: &ByteList) -> Put
     requires { IsTrue (write_fields.allows (handle, (offset, bytes.now))) }
     ensures { OnOk result (out.new ≡ out.old ++ 18 ∷ write_fields.spell (handle, (offset, bytes.now))) }
 {
@@ -190,7 +147,7 @@ pub fn put_inode_and_page(
     inode: u64,
     after: &ByteList,
     max: u16,
-) -> Result<(), AllocError>
+) -> Put
     requires { IsTrue (readdir_fields.allows (inode, (after.now, max))) }
     ensures { OnOk result (out.new ≡ out.old ++ code ∷ readdir_fields.spell (inode, (after.now, max))) }
 {
@@ -207,7 +164,7 @@ pub fn put_setxattr(
     name: &ByteList,
     flag: SetFlag,
     value: &ByteList,
-) -> Result<(), AllocError>
+) -> Put
     requires { IsTrue (setxattr_fields.allows (inode, (name.now, (flag, value.now)))) }
     ensures { OnOk result (out.new ≡ out.old ++ 22 ∷ setxattr_fields.spell (inode, (name.now, (flag, value.now)))) }
 {
@@ -216,11 +173,4 @@ pub fn put_setxattr(
     put_name(out, name)?;
     put_set_flag(out, flag)?;
     put_data(out, value)
-}
-
-pub fn put_cache_size(out: &mut ByteList, entries: u32) -> Result<(), AllocError>
-    ensures { OnOk result (out.new ≡ out.old ++ 31 ∷ cache_size_fields.spell entries) }
-{
-    out.push(31)?;
-    put_u32(out, entries)
 }

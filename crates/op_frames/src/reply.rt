@@ -1,5 +1,4 @@
-use crate::{DirEntryList, NameList};
-use s3_base::{ByteList, Errno, Kind};
+use s3_base::{ByteList, Errno, Kind, Sequence};
 
 /// The attributes of a node. Times are nanoseconds since 1970-01-01 00:00 UTC, and `size` counts bytes.
 #[derive(Clone, Copy, Debug, PartialEq, Eq)]
@@ -32,6 +31,12 @@ pub struct DirEntry {
     pub kind: Kind,
     pub name: ByteList,
 }
+
+/// Entries of a directory, in order.
+pub type DirEntryList = Sequence<DirEntry>;
+
+/// Names of entries or of attributes, in order.
+pub type NameList = Sequence<ByteList>;
 
 /// The reply to an operation.
 #[derive(Debug, Drop)]

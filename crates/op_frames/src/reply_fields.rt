@@ -6,10 +6,10 @@ ghost use Rattle.frame_fields.specs.Unread.{rest_of};
 ghost use Rattle.op_frames.specs.Replies.{attr_field, entry_field, entries_field, names_field, cause_field};
 
 use crate::{Attr, Cause, DirEntry, DirEntryList, FrameFault, NameList};
-use frame_fields::fields::{self, Unread};
+use frame_fields::fields::{self, Found, Unread};
 use std::alloc::Global;
 
-pub fn attr_of(unread: Unread<'_>) -> Result<(Attr, Unread<'_>), FrameFault>
+pub fn attr_of(unread: Unread<'_>) -> Found<'_, Attr>
     ensures { Gives (λ x. (x.0, rest_of x.1)) result (attr_field.read (rest_of unread.entry)) }
 {
     let (inode, unread) = fields::u64_of(unread)?;
@@ -38,7 +38,7 @@ pub fn attr_of(unread: Unread<'_>) -> Result<(Attr, Unread<'_>), FrameFault>
 }
 
 #[tactic(auto, unfolding(crate::specs::Replies::cause_field))]
-pub fn cause_of(unread: Unread<'_>) -> Result<(Cause, Unread<'_>), FrameFault>
+pub fn cause_of(unread: Unread<'_>) -> Found<'_, Cause>
     ensures { Gives (λ x. (x.0, rest_of x.1)) result (cause_field.read (rest_of unread.entry)) }
 {
     let (code, after) = fields::byte_of(unread)?;
@@ -51,7 +51,7 @@ pub fn cause_of(unread: Unread<'_>) -> Result<(Cause, Unread<'_>), FrameFault>
     }
 }
 
-fn entry_of(alloc: Global, unread: Unread<'_>) -> Result<(DirEntry, Unread<'_>), FrameFault>
+fn entry_of(alloc: Global, unread: Unread<'_>) -> Found<'_, DirEntry>
     ensures { Gives (λ x. (x.0, rest_of x.1)) result (entry_field.read (rest_of unread.entry)) }
 {
     let (inode, unread) = fields::u64_of(unread)?;
@@ -61,11 +61,7 @@ fn entry_of(alloc: Global, unread: Unread<'_>) -> Result<(DirEntry, Unread<'_>),
 }
 
 /// So many entries in a row.
-fn entries_in_row(
-    alloc: Global,
-    count: u16,
-    unread: Unread<'_>,
-) -> Result<(DirEntryList, Unread<'_>), FrameFault>
+fn entries_in_row(alloc: Global, count: u16, unread: Unread<'_>) -> Found<'_, DirEntryList>
     ensures { Gives (λ x. (x.0, rest_of x.1)) result (items_of entry_field count (rest_of unread.entry)) }
 {
     let mut entries = DirEntryList::new(alloc);
@@ -78,10 +74,7 @@ fn entries_in_row(
     Ok((entries, rest))
 }
 
-pub fn entries_of(
-    alloc: Global,
-    unread: Unread<'_>,
-) -> Result<(DirEntryList, Unread<'_>), FrameFault>
+pub fn entries_of(alloc: Global, unread: Unread<'_>) -> Found<'_, DirEntryList>
     ensures { Gives (λ x. (x.0, rest_of x.1)) result (entries_field.read (rest_of unread.entry)) }
 {
     let (count, unread) = fields::item_count_of(unread)?;
@@ -89,11 +82,7 @@ pub fn entries_of(
 }
 
 /// So many names in a row.
-fn names_in_row(
-    alloc: Global,
-    count: u16,
-    unread: Unread<'_>,
-) -> Result<(NameList, Unread<'_>), FrameFault>
+fn names_in_row(alloc: Global, count: u16, unread: Unread<'_>) -> Found<'_, NameList>
     ensures { Gives (λ x. (x.0, rest_of x.1)) result (items_of short_name_field count (rest_of unread.entry)) }
 {
     let mut names = NameList::new(alloc);
@@ -106,7 +95,7 @@ fn names_in_row(
     Ok((names, rest))
 }
 
-pub fn names_of(alloc: Global, unread: Unread<'_>) -> Result<(NameList, Unread<'_>), FrameFault>
+pub fn names_of(alloc: Global, unread: Unread<'_>) -> Found<'_, NameList>
     ensures { Gives (λ x. (x.0, rest_of x.1)) result (names_field.read (rest_of unread.entry)) }
 {
     let (count, unread) = fields::item_count_of(unread)?;

@@ -5,13 +5,13 @@ ghost use Rattle.frame_fields.specs.Unread.{rest_of};
 ghost use Rattle.op_frames.specs.declared.reply.Reply.TheVariants as replies;
 ghost use Rattle.op_frames.specs.Replies.{opened_fields, stat_fields, lost_fields, reply_to_5, reply_to_11, reply_behind, reply_field};
 
+use crate::Reply;
 use crate::reply_fields::{attr_of, cause_of, entries_of, names_of};
-use crate::{FrameFault, Reply};
-use frame_fields::fields::{self, Unread};
+use frame_fields::fields::{self, Found, Unread};
 use s3_base::Errno;
 use std::alloc::Global;
 
-fn opened_of(unread: Unread<'_>) -> Result<(Reply, Unread<'_>), FrameFault>
+fn opened_of(unread: Unread<'_>) -> Found<'_, Reply>
     ensures { Gives (λ x. (x.0, rest_of x.1)) result (made (λ x. replies.Opened x.0 x.1) (opened_fields.read (rest_of unread.entry))) }
 {
     let (handle, unread) = fields::u64_of(unread)?;
@@ -19,25 +19,23 @@ fn opened_of(unread: Unread<'_>) -> Result<(Reply, Unread<'_>), FrameFault>
     Ok((Reply::Opened { handle, attr }, unread))
 }
 
-fn stat_of(unread: Unread<'_>) -> Result<(Reply, Unread<'_>), FrameFault>
+fn stat_of(unread: Unread<'_>) -> Found<'_, Reply>
     ensures { Gives (λ x. (x.0, rest_of x.1)) result (made (λ x. replies.Stat x.0 x.1.0 x.1.1.0 x.1.1.1) (stat_fields.read (rest_of unread.entry))) }
 {
     let (block_size, unread) = fields::u32_of(unread)?;
     let (inodes, unread) = fields::u64_of(unread)?;
     let (entries, unread) = fields::u64_of(unread)?;
     let (bytes, unread) = fields::u64_of(unread)?;
-    Ok((
-        Reply::Stat {
-            block_size,
-            inodes,
-            entries,
-            bytes,
-        },
-        unread,
-    ))
+    let reply = Reply::Stat {
+        block_size,
+        inodes,
+        entries,
+        bytes,
+    };
+    Ok((reply, unread))
 }
 
-fn lost_of(unread: Unread<'_>) -> Result<(Reply, Unread<'_>), FrameFault>
+fn lost_of(unread: Unread<'_>) -> Found<'_, Reply>
     ensures { Gives (λ x. (x.0, rest_of x.1)) result (made (λ x. replies.Lost x.0 x.1.0 x.1.1) (lost_fields.read (rest_of unread.entry))) }
 {
     let (object, unread) = fields::u64_of(unread)?;
@@ -48,11 +46,7 @@ fn lost_of(unread: Unread<'_>) -> Result<(Reply, Unread<'_>), FrameFault>
 
 /// The fields behind a tag from 1 to 5.
 #[tactic(auto, unfolding(crate::specs::Replies::reply_to_5))]
-fn reply_up_to_5(
-    alloc: Global,
-    tag: u8,
-    unread: Unread<'_>,
-) -> Result<(Reply, Unread<'_>), FrameFault>
+fn reply_up_to_5(alloc: Global, tag: u8, unread: Unread<'_>) -> Found<'_, Reply>
     ensures { Gives (λ x. (x.0, rest_of x.1)) result (reply_to_5 tag (rest_of unread.entry)) }
 {
     match tag {
@@ -75,11 +69,7 @@ fn reply_up_to_5(
 
 /// From 6 to 11.
 #[tactic(auto, unfolding(crate::specs::Replies::reply_to_11))]
-fn reply_up_to_11(
-    alloc: Global,
-    tag: u8,
-    unread: Unread<'_>,
-) -> Result<(Reply, Unread<'_>), FrameFault>
+fn reply_up_to_11(alloc: Global, tag: u8, unread: Unread<'_>) -> Found<'_, Reply>
     ensures { Gives (λ x. (x.0, rest_of x.1)) result (reply_to_11 tag (rest_of unread.entry)) }
 {
     match tag {
@@ -105,11 +95,7 @@ fn reply_up_to_11(
 }
 
 #[tactic(auto, unfolding(crate::specs::Replies::reply_behind))]
-fn reply_behind_tag(
-    alloc: Global,
-    tag: u8,
-    unread: Unread<'_>,
-) -> Result<(Reply, Unread<'_>), FrameFault>
+fn reply_behind_tag(alloc: Global, tag: u8, unread: Unread<'_>) -> Found<'_, Reply>
     ensures { Gives (λ x. (x.0, rest_of x.1)) result (reply_behind tag (rest_of unread.entry)) }
 {
     match tag {
@@ -120,7 +106,7 @@ fn reply_behind_tag(
 
 /// A reply: its tag, and the fields behind it.
 #[tactic(auto, unfolding(crate::specs::Replies::reply_field, crate::specs::Replies::reply_tag_field))]
-pub fn reply_of(alloc: Global, unread: Unread<'_>) -> Result<(Reply, Unread<'_>), FrameFault>
+pub fn reply_of(alloc: Global, unread: Unread<'_>) -> Found<'_, Reply>
     ensures { Gives (λ x. (x.0, rest_of x.1)) result (reply_field.read (rest_of unread.entry)) }
 {
     let (tag, unread) = fields::u8_between(1, 11, unread)?;

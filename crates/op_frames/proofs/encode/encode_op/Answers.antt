@@ -1,4 +1,4 @@
-use Rattle.std.proofs.Common.{◌≡◌, List, ℕ, [], ◌++◌, length, ap, ◌∙◌, arith}
+use Rattle.std.proofs.Common.{◌≡◌, List, ℕ, ◌++◌, length, ap, ◌∙◌, arith}
 use Rattle.op_frames.specs.Operations.{op_field, op_spelling}
 use Rattle.op_frames.proofs.Operations.{op_is}
 use Rattle.op_frames.proofs.encode.encode_op.Goals as goal
