@@ -32,7 +32,7 @@ use Rattle.tree_laws.proofs.Copying.{place_within, with_copies, old_node, new_no
 use Rattle.tree_laws.proofs.Gaining.{IsBelow}
 use Rattle.tree_laws.proofs.Losing.{none_some}
 use Rattle.tree_laws.proofs.Nodes.{changes_one}
-use Rattle.tree_laws.proofs.Passing.{all_pass, not_failed}
+use Rattle.tree_laws.proofs.Walk.Passed.{all_pass, not_failed}
 use Rattle.tree_laws.proofs.Standing.{folder_is, free_is}
 use Rattle.tree_laws.proofs.Still.{present}
 use Rattle.tree_laws.proofs.TreeShape.{kind_in, entry_in, shape_of, Links, add_shape, changed_here, changed_there}

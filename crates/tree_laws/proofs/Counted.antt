@@ -88,11 +88,11 @@ names_one x n (Link target) rise is only = absurd (cc is)
 abbrev OnlyPlace : ℕ → ℕ → List ℕ → List (ℕ × Node) → Type 0
 OnlyPlace x p n es = (q : ℕ) (m : List ℕ) → entry_in m (lookup (is_at (nat_cmp q)) es) ≡ Some x → (q ≡ p) × (m ≡ n)
 
-first_node : (e : ℕ × Node) (es : List (ℕ × Node)) → lookup (is_at (nat_cmp e.0)) (e ∷ es) ≡ Some e.1
+pub first_node : (e : ℕ × Node) (es : List (ℕ × Node)) → lookup (is_at (nat_cmp e.0)) (e ∷ es) ≡ Some e.1
 first_node e es = ap (λ b. cond b (Some e.1) (lookup (is_at (nat_cmp e.0)) es)) (own_number e.0)
 
 -- an entry of a later node is found past the first
-past_node : (x q : ℕ) (m : List ℕ) (e : ℕ × Node) (es : List (ℕ × Node)) (next : ℕ) → Ascend (e.0 + 1) (keys_of es) next → entry_in m (lookup (is_at (nat_cmp q)) es) ≡ Some x
+pub past_node : (x q : ℕ) (m : List ℕ) (e : ℕ × Node) (es : List (ℕ × Node)) (next : ℕ) → Ascend (e.0 + 1) (keys_of es) next → entry_in m (lookup (is_at (nat_cmp q)) es) ≡ Some x
     → (q ≢ e.0) × (entry_in m (lookup (is_at (nat_cmp q)) (e ∷ es)) ≡ Some x)
 past_node x q m e es next ascend is =
     let apart : q ≢ e.0 = λ same.

@@ -22,12 +22,12 @@ use Rattle.tree_laws.specs.LockedTrees.{Spares, AllSpare, IsAsBefore}
 use Rattle.tree_laws.specs.Locks.{WouldChange, IsKept}
 use Rattle.plain_tree.specs.Numbers.{InOrder}
 use Rattle.tree_laws.proofs.CopyShape.{none_at, copy_shape}
-use Rattle.tree_laws.proofs.EachCall.{after_call}
+use Rattle.tree_laws.proofs.Walk.Calls.{after_call}
 use Rattle.tree_laws.proofs.Locked.{first_of, refused}
 use Rattle.tree_laws.proofs.Losing.{Unlinks, Sweeps, none_some}
-use Rattle.tree_laws.proofs.Named as names_by
-use Rattle.tree_laws.proofs.Ordered as numbers_by
-use Rattle.tree_laws.proofs.Passing.{AllPass, all_pass, not_failed}
+use Rattle.tree_laws.proofs.Name.Order as names_by
+use Rattle.tree_laws.proofs.Node.Order as numbers_by
+use Rattle.tree_laws.proofs.Walk.Passed.{AllPass, all_pass, not_failed}
 use Rattle.tree_laws.proofs.Shape.{IsUnnamed, IsPlace, not_there}
 use Rattle.tree_laws.proofs.Sounding.{sound_after}
 use Rattle.tree_laws.proofs.Standing.{Sound, folder_is, free_is, empty_is}
@@ -82,7 +82,7 @@ stamp now y p x n t names = (same_shape (stamped now) (λ node. refl) (λ name n
 drop : (now : ℕ) (found : Option ℕ) (p x : ℕ) (n : List ℕ) (t : Tree) → InOrder t → ((y : ℕ) → found ≡ Some y → p ≢ y) → entry_at t p n ≡ Some x → entry_at (dropped now found t) p n ≡ Some x
 drop now None p x n t ordered apart names = names
 drop now (Some y) p x n t ordered apart names =
-    settle y p x n (change_node y (stamped now) t) (numbers_by.change (stamped now) y t ordered) (λ dead. apart y refl) (stamp now y p x n t names)
+    settle y p x n (change_node y (stamped now) t) (numbers_by.InOrder-change_node (stamped now) y t ordered) (λ dead. apart y refl) (stamp now y p x n t names)
 
 -- ---- new nodes
 
@@ -127,10 +127,10 @@ moved t p x n node held q m nq nm now folder old new apart (Some y) =
     let two : Tree = drop_entry nq nm now one in
     let three : Tree = add_entry nq nm y now two in
     let first : Unlinks (shape_of t) (shape_of one) q m = drop_shape q m now t held.sound.names in
-    let second : Unlinks (shape_of one) (shape_of two) nq nm = drop_shape nq nm now one (names_by.drop q m now t held.sound.names) in
+    let second : Unlinks (shape_of one) (shape_of two) nq nm = drop_shape nq nm now one (names_by.NamesInOrder-drop_entry q m now t held.sound.names) in
     let links : Links (shape_of two) (shape_of three) nq nm y = add_shape nq nm y now two (second.kind nq ∙ first.kind nq ∙ folder) in
-    let ordered : InOrder three = numbers_by.change _ nq two (numbers_by.change _ nq one (numbers_by.change _ q t held.sound.ordered)) in
-    drop now (entry_at t nq nm) p x n (change_node y (stamped now) three) (numbers_by.change (stamped now) y three ordered) apart
+    let ordered : InOrder three = numbers_by.InOrder-change_node _ nq two (numbers_by.InOrder-change_node _ nq one (numbers_by.InOrder-change_node _ q t held.sound.ordered)) in
+    drop now (entry_at t nq nm) p x n (change_node y (stamped now) three) (numbers_by.InOrder-change_node (stamped now) y three ordered) apart
     (stamp now y p x n three (links.rest p n new ∙ second.rest p n new ∙ first.rest p n old ∙ held.names))
 
 renamed_if : (t : Tree) (p x : ℕ) (n : List ℕ) (node : Node) → Held t p x n node → (q : ℕ) (m : List ℕ) (nq : ℕ) (nm : List ℕ) (now : ℕ) → kind_in (node_at t nq) ≡ Some kinds.Directory
@@ -164,7 +164,7 @@ unmade t p x n node held q m now differs empty y is =
     let bare : entry_in n (child_at t q m) ≡ None = empty_is (child_at t q m) empty n in
     let apart : p ≢ y = λ same.
     none_some (entry_at t p n) x (ap (λ k. entry_at t k n) same ∙ sym (ap (λ o. entry_in n (option_and_then (node_at t) o)) is) ∙ bare) held.names in
-    (remove_shape y one (numbers_by.change _ q t held.sound.ordered)).entry p n apart ∙ (drop_shape q m now t held.sound.names).rest p n differs ∙ held.names
+    (remove_shape y one (numbers_by.InOrder-change_node _ q t held.sound.ordered)).entry p n apart ∙ (drop_shape q m now t held.sound.names).rest p n differs ∙ held.names
 
 unmade_if : (t : Tree) (p x : ℕ) (n : List ℕ) (node : Node) → Held t p x n node → (q : ℕ) (m : List ℕ) (now : ℕ) → (IsPlace q m p n → ⊥) → empty_check (child_at t q m) ≡ None → (found : Option ℕ)
     → entry_at t q m ≡ found → entry_check found ≡ None → entry_at (without_node (unwrap_or found 0) (drop_entry q m now t)) p n ≡ Some x
@@ -209,7 +209,7 @@ stays_by t pass now (ops.Symlink q m target uid gid) p x n node held passes spar
 stays_by t pass now (ops.Unlink q m) p x n node held passes spares =
     let all = all_pass (checks t pass (ops.Unlink q m)) passes in
     let differs : IsPlace q m p n → ⊥ = λ place. never t pass p x n node (ops.Unlink q m) held passes (inr (at_place t p x n held.names q m place)) in
-    drop now (entry_at t q m) p x n (drop_entry q m now t) (numbers_by.change _ q t held.sound.ordered)
+    drop now (entry_at t q m) p x n (drop_entry q m now t) (numbers_by.InOrder-change_node _ q t held.sound.ordered)
     (λ y is same.
     no_folder_is 21 (child_at t q m) all.1.1.1.1.1.1.0
     (ap (λ o. kind_in (option_and_then (node_at t) o)) is ∙ ap (λ k. kind_in (node_at t k)) (sym same) ∙ folder_of t p x n node held))

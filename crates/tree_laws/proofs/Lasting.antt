@@ -1,27 +1,18 @@
--- Every tree that calls lead to has one tree of names and no orphans.
-use Rattle.std.proofs.Common.{◌≡◌, ◌≢◌, ◌<◌, ℕ, zero, suc, List, [], ◌∷◌, Bool, true, false, cond, Option, None, Some, IsSome, refl, sym, ap, ◌∙◌, ◌⊎◌, inl, inr, arith}
-use Rattle.std.specs.Prelude.{option_and_then}
+-- The tree that was just made is one tree of names without orphans.
+use Rattle.std.proofs.Common.{◌≡◌, ◌<◌, ℕ, zero, suc, List, [], ◌∷◌, Bool, true, false, cond, None, Some, refl, sym, ap, ◌∙◌, ◌⊎◌, inl, inr, arith}
 use Rattle.std.specs.BTreeMap.{is_at}
 use Rattle.std.specs.Cmp.Lexicographic.{slice_cmp}
 use Rattle.std.specs.Ordering.{nat_cmp}
 use Rattle.std.proofs.lemmas.List.Elements.{All-nil}
-use Rattle.op_frames.specs.Replay.{Request}
 use Rattle.s3_base.specs.declared.node_kind.Kind.{Kind}
 use Rattle.s3_base.specs.declared.node_kind.Kind.TheVariants as kinds
-use Rattle.plain_tree.specs.Attributes.{kind_of}
-use Rattle.plain_tree.specs.Calls.{tree_after_all}
-use Rattle.plain_tree.specs.Entries.{is_directory, is_folder, entry_at, is_named}
-use Rattle.plain_tree.specs.Tree.{Content, Regular, Directory, Link, Node, Tree, root, lost_and_found, empty_directory, made_tree, node_at}
-use Rattle.plain_tree.specs.WellFormed.{is_file, entries_naming, LeadsToRoot, HasOneTree, HasNoOrphans}
-use Rattle.tree_laws.proofs.Counted.{sum_one}
-use Rattle.tree_laws.proofs.Legal.{reached_legal}
+use Rattle.plain_tree.specs.Entries.{entry_at}
+use Rattle.plain_tree.specs.Tree.{Directory, root, lost_and_found, empty_directory, made_tree, node_at}
 use Rattle.tree_laws.proofs.Nodes.{same_number}
-use Rattle.tree_laws.proofs.Renaming.{is_a_folder}
-use Rattle.tree_laws.proofs.Shape.{Leads, IsUnnamed, Grown, NoneGoes}
-use Rattle.tree_laws.proofs.Sounding.{sound_after}
+use Rattle.tree_laws.proofs.Shape.{Grown, NoneGoes}
 use Rattle.tree_laws.proofs.Spelling.{same_name}
 use Rattle.tree_laws.proofs.Standing.{Sound}
-use Rattle.tree_laws.proofs.TreeShape.{kind_in, entry_in, shape_of, not_named, is_named_by}
+use Rattle.tree_laws.proofs.TreeShape.{kind_in, entry_in, shape_of}
 
 -- ---- the tree that was just made
 
@@ -41,7 +32,7 @@ entry_made block_size now p x n true second here other is =
 entry_made block_size now p x n false true here other is = absurd (cc is)
 entry_made block_size now p x n false false here other is = absurd (cc is)
 
-made_entry : (block_size now p x : ℕ) (n : List ℕ) → entry_at (made_tree block_size now) p n ≡ Some x → (p ≡ root) × (n ≡ lost_and_found) × (x ≡ 2)
+pub made_entry : (block_size now p x : ℕ) (n : List ℕ) → entry_at (made_tree block_size now) p n ≡ Some x → (p ≡ root) × (n ≡ lost_and_found) × (x ≡ 2)
 made_entry block_size now p x n is = entry_made block_size now p x n (is_at (nat_cmp p) 1) (is_at (nat_cmp p) 2) refl refl is
 
 kind_made : (now x : ℕ) (k : Kind) (first second : Bool) → is_at (nat_cmp x) 1 ≡ first → is_at (nat_cmp x) 2 ≡ second
@@ -96,94 +87,10 @@ made_grown block_size now = record {
   inner = λ x goes. absurd goes;
 }
 
-pub reached_sound : (block_size time : ℕ) (calls : List Request) → Sound (tree_after_all (made_tree block_size time) calls)
-reached_sound block_size time calls =
-    sound_after (made_tree block_size time) calls
-    (record {
-      ordered = (omega arith, (omega arith, omega arith));
-      names = (_, (_, _));
-      below = All-nil (λ k. k < 1);
-      grown = made_grown block_size time;
-    })
-
--- ---- in the words of the definition
-
-content_kind : (content : Content) → is_directory content ≡ true → kind_of content ≡ kinds.Directory
-content_kind (Directory entries) is = refl
-content_kind (Regular bytes) is = absurd (cc is)
-content_kind (Link target) is = absurd (cc is)
-
-content_file : (content : Content) → kind_of content ≡ kinds.Regular
-    → elim content as (λ _. Bool) [ Regular bytes ↦ true | Directory entries ↦ false | Link target ↦ false ] ≡ true
-content_file (Regular bytes) is = refl
-content_file (Directory entries) is = absurd (cc is)
-content_file (Link target) is = absurd (cc is)
-
-folder_kind : (found : Option Node) → is_folder found ≡ true → kind_in found ≡ Some kinds.Directory
-folder_kind None is = absurd (cc is)
-folder_kind (Some node) is = ap Some (content_kind node.content is)
-
-file_kind : (found : Option Node) → kind_in found ≡ Some kinds.Regular → is_file found ≡ true
-file_kind None is = absurd (cc is)
-file_kind (Some node) is =
-    let same : kind_of node.content ≡ kinds.Regular = cc is in
-    content_file node.content same
-
-some_is : (found : Option Node) (k : Kind) → kind_in found ≡ Some k → IsSome found
-some_is None k is = absurd (cc is)
-some_is (Some node) k is = refl
-
-some_kind : (found : Option Node) → IsSome found → (k : Kind) × (kind_in found ≡ Some k)
-some_kind None is = absurd (cc is)
-some_kind (Some node) is = (kind_of node.content, refl)
-
-to_root : (t : Tree) (steps x : ℕ) → Leads (entry_at t) steps x → LeadsToRoot t steps x
-to_root t zero x leads = leads
-to_root t (suc steps) x leads = (leads.0, leads.1, leads.2, to_root t steps leads.0 leads.3)
-
-named_once : (t : Tree) → Sound t → (x : ℕ) → kind_in (node_at t x) ≡ Some kinds.Directory → x ≢ root → (steps : ℕ) → Leads (entry_at t) steps x → entries_naming t x ≡ 1
-named_once t sound x folder inner zero leads = absurd (inner leads)
-named_once t sound x folder inner (suc steps) leads =
-    sum_one x leads.0 leads.1 0 t.nodes t.next_inode sound.ordered sound.names leads.2 (λ q m found. sound.grown.once leads.0 q x leads.1 m folder leads.2 found)
-
-pub named_there : (t : Tree) → Sound t → (p x : ℕ) (n : List ℕ) → entry_at t p n ≡ Some x → IsSome (node_at t x)
-named_there t sound p x n is =
-    let found = sound.grown.there p x n is in
-    some_is (node_at t x) found.0 found.1
-
-pub one_tree : (block_size time : ℕ) (calls : List Request) → HasOneTree (tree_after_all (made_tree block_size time) calls)
-one_tree block_size time calls =
-    let t : Tree = tree_after_all (made_tree block_size time) calls in
-    let sound : Sound t = reached_sound block_size time calls in
-    let grown : Grown NoneGoes (shape_of t) = sound.grown in
-    record {
-      is_rooted = is_a_folder (node_at t root) grown.rooted;
-      root_is_unnamed = not_named t sound.ordered sound.names root grown.top (is_named t root) refl;
-      keeps_lost_and_found = ap (λ x. is_folder (option_and_then (node_at t) x)) grown.kept.1 ∙ is_a_folder (node_at t grown.kept.0) grown.kept.2;
-      entries = λ p x n is. named_there t sound p x n is;
-      names = λ p x n is. reached_legal block_size time calls p x n is;
-      once = λ x folder inner.
-          let kind : kind_in (node_at t x) ≡ Some kinds.Directory = folder_kind (node_at t x) folder in
-          let way = grown.leads x (λ none. none) kind in
-          named_once t sound x kind inner way.0 way.1;
-      leads = λ x folder.
-          let way = grown.leads x (λ none. none) (folder_kind (node_at t x) folder) in
-          (way.0, to_root t way.0 x way.1);
-    }
-
-unnamed_by : (t : Tree) (x : ℕ) → is_named t x ≡ false → IsUnnamed (shape_of t) x
-unnamed_by t x none p n is =
-    let both_ways : true ≡ false = sym (is_named_by t x p n is) ∙ none in
-    cc both_ways
-
-pub no_orphans : (block_size time : ℕ) (calls : List Request) → HasNoOrphans (tree_after_all (made_tree block_size time) calls)
-no_orphans block_size time calls =
-    let t : Tree = tree_after_all (made_tree block_size time) calls in
-    let sound : Sound t = reached_sound block_size time calls in
-    record {
-      orphans = λ x there inner unnamed.
-          let kind = some_kind (node_at t x) there in
-          let found = sound.grown.orphans x kind.0 (λ none. none) kind.1 inner (unnamed_by t x unnamed) in
-          (file_kind (node_at t x) (kind.1 ∙ ap Some found.0), found.1);
-      handles = λ x opened. file_kind (node_at t x) (sound.grown.handles x opened);
-    }
+pub made_sound : (block_size now : ℕ) → Sound (made_tree block_size now)
+made_sound block_size now = record {
+  ordered = (omega arith, (omega arith, omega arith));
+  names = (_, (_, _));
+  below = All-nil (λ k. k < 1);
+  grown = made_grown block_size now;
+}

@@ -1,5 +1,4 @@
 pub mod Alone
-pub mod Ascending
 pub mod Bools
 pub mod Branches
 pub mod Bytes
@@ -8,14 +7,9 @@ pub mod Copied
 pub mod Copying
 pub mod CopyShape
 pub mod Counted
-pub mod EachCall
-pub mod EachNode
 pub mod Gaining
-pub mod Grounded
 pub mod Holding
 pub mod Lasting
-pub mod Legal
-pub mod Limited
 pub mod Locked
 pub mod Locking
 pub mod Lookups
@@ -25,14 +19,11 @@ pub mod MovedOnce
 pub mod MovedShape
 pub mod MovedTrees
 pub mod Moving
-pub mod Named
+pub mod Name
+pub mod Node
 pub mod Nodes
-pub mod Ordered
-pub mod Passing
-pub mod Preserved
 pub mod Removed
 pub mod Renaming
-pub mod Rising
 pub mod Shape
 pub mod Sides
 pub mod Sounding
@@ -43,5 +34,7 @@ pub mod Still
 pub mod SubtreeShape
 pub mod TreeShape
 pub mod Visited
+pub mod Walk
 pub mod Walked
+pub mod WellFormed
 pub mod Written

@@ -26,9 +26,9 @@ use Rattle.tree_laws.proofs.Locked.{first_of, refused}
 use Rattle.tree_laws.proofs.Holding.{one_stays, all_stay}
 use Rattle.tree_laws.proofs.Losing.{none_some}
 use Rattle.s3_base.specs.declared.node_kind.Kind.{Kind}
-use Rattle.tree_laws.proofs.Lasting.{reached_sound}
+use Rattle.tree_laws.proofs.WellFormed.{reached_sound}
 use Rattle.tree_laws.proofs.Nodes.{same_number}
-use Rattle.tree_laws.proofs.Passing.{all_pass, not_failed}
+use Rattle.tree_laws.proofs.Walk.Passed.{all_pass, not_failed}
 use Rattle.tree_laws.proofs.Shape.{Leads, NoneGoes, one_entry}
 use Rattle.tree_laws.proofs.Sounding.{sound_after}
 use Rattle.tree_laws.proofs.Standing.{Sound, folder_is}

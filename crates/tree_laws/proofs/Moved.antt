@@ -21,9 +21,9 @@ use Rattle.tree_laws.proofs.Bools.{left_false}
 use Rattle.tree_laws.proofs.Gaining.{Moves}
 use Rattle.tree_laws.proofs.Losing.{none_some}
 use Rattle.tree_laws.proofs.Moving.{SameFrame, moved_to, move_shape, ordered_moved, names_moved, frame_moved, moved_other, moved_itself, moved_parents, touched_on, Settles, settles, settled_entry, is_stamped}
-use Rattle.tree_laws.proofs.Named as names_by
-use Rattle.tree_laws.proofs.Ordered as numbers_by
-use Rattle.tree_laws.proofs.Passing.{AllPass, all_pass, not_failed}
+use Rattle.tree_laws.proofs.Name.Order as names_by
+use Rattle.tree_laws.proofs.Node.Order as numbers_by
+use Rattle.tree_laws.proofs.Walk.Passed.{AllPass, all_pass, not_failed}
 use Rattle.tree_laws.proofs.Renaming.{is_a_folder}
 use Rattle.tree_laws.proofs.Shape.{IsPlace, one_entry, not_there}
 use Rattle.tree_laws.proofs.Standing.{empty_is, folder_is}
@@ -129,8 +129,8 @@ over_another t p np x r now n nn plain names replaced folder new_folder outside 
       next_inode = ends.frame.next_inode ∙ frame.next_inode;
       next_handle = ends.frame.next_handle ∙ frame.next_handle;
       block_size = ends.frame.block_size ∙ frame.block_size;
-      ordered = numbers_by.settle r (change_node r (stamped now) four) (numbers_by.change (stamped now) r four four_ordered);
-      names = names_by.settle r (change_node r (stamped now) four) (names_by.stamp now r four four_names);
+      ordered = numbers_by.InOrder-settled r (change_node r (stamped now) four) (numbers_by.InOrder-change_node (stamped now) r four four_ordered);
+      names = names_by.NamesInOrder-settled r (change_node r (stamped now) four) (names_by.NamesInOrder-stamped now r four four_names);
     }
 
 differ_if : (r x : ℕ) → (r == x) ≡ false → x ≢ r

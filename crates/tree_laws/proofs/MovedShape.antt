@@ -11,10 +11,9 @@ use Rattle.plain_tree.specs.WellFormed.{is_file, entries_naming, LeadsToRoot, Ha
 use Rattle.plain_tree.specs.Names.{NamesInOrder}
 use Rattle.plain_tree.specs.Numbers.{InOrder}
 use Rattle.tree_laws.proofs.Counted.{sum_one}
-use Rattle.tree_laws.proofs.Lasting.{named_there}
 use Rattle.tree_laws.proofs.MovedOnce.{named_once}
 use Rattle.tree_laws.proofs.Renaming.{is_a_folder}
-use Rattle.tree_laws.proofs.Shape.{Leads, Grown, NoneGoes}
+use Rattle.tree_laws.proofs.Shape.{Leads, IsUnnamed, Grown, NoneGoes}
 use Rattle.tree_laws.proofs.Standing.{Sound}
 use Rattle.tree_laws.proofs.TreeShape.{kind_in, entry_in, shape_of, not_named, is_named_by}
 
@@ -57,6 +56,12 @@ holds_kind None n x is = absurd (cc is)
 holds_kind (Some node) n x is = ap Some (content_holds node.content n x is)
 
 -- ---- from the definition
+
+-- what the removal of a subtree asks of a tree
+pub record Rooted (t : Tree) : Type 0 where
+  pub ordered : InOrder t
+  pub names : NamesInOrder t
+  pub grown : Grown NoneGoes (shape_of t)
 
 pub root_unnamed : (t : Tree) → HasOneTree t → (p : ℕ) (n : List ℕ) → entry_at t p n ≡ Some root → ⊥
 root_unnamed t tree p n is =
@@ -112,6 +117,11 @@ counted_once t sound x folder inner zero leads = absurd (inner leads)
 counted_once t sound x folder inner (suc steps) leads =
     sum_one x leads.0 leads.1 0 t.nodes t.next_inode sound.ordered sound.names leads.2 (λ q m found. sound.grown.once leads.0 q x leads.1 m folder leads.2 found)
 
+pub named_there : (t : Tree) → Sound t → (p x : ℕ) (n : List ℕ) → entry_at t p n ≡ Some x → IsSome (node_at t x)
+named_there t sound p x n is =
+    let found = sound.grown.there p x n is in
+    kind_some (node_at t x) found.0 found.1
+
 pub tree_of : (t : Tree) → Sound t → ((p x : ℕ) (n : List ℕ) → entry_at t p n ≡ Some x → name_check n ≡ None) → HasOneTree t
 tree_of t sound legal =
     let grown : Grown NoneGoes (shape_of t) = sound.grown in
@@ -129,3 +139,29 @@ tree_of t sound legal =
           let way = grown.leads x (λ none. none) (folder_kind (node_at t x) folder) in
           (way.0, to_root t way.0 x way.1);
     }
+
+regular_content : (content : Content) → kind_of content ≡ kinds.Regular
+    → elim content as (λ _. Bool) [ Regular bytes ↦ true | Directory entries ↦ false | Link target ↦ false ] ≡ true
+regular_content (Regular bytes) is = refl
+regular_content (Directory entries) is = absurd (cc is)
+regular_content (Link target) is = absurd (cc is)
+
+is_a_file : (found : Option Node) → kind_in found ≡ Some kinds.Regular → is_file found ≡ true
+is_a_file None is = absurd (cc is)
+is_a_file (Some node) is =
+    let same : kind_of node.content ≡ kinds.Regular = cc is in
+    regular_content node.content same
+
+unnamed_by : (t : Tree) (x : ℕ) → is_named t x ≡ false → IsUnnamed (shape_of t) x
+unnamed_by t x none p n is =
+    let both_ways : true ≡ false = sym (is_named_by t x p n is) ∙ none in
+    cc both_ways
+
+pub orphans_of : (t : Tree) → Sound t → HasNoOrphans t
+orphans_of t sound = record {
+  orphans = λ x there inner unnamed.
+      let kind = some_kind (node_at t x) there in
+      let found = sound.grown.orphans x kind.0 (λ none. none) kind.1 inner (unnamed_by t x unnamed) in
+      (is_a_file (node_at t x) (kind.1 ∙ ap Some found.0), found.1);
+  handles = λ x opened. is_a_file (node_at t x) (sound.grown.handles x opened);
+}

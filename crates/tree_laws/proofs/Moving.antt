@@ -14,8 +14,8 @@ use Rattle.tree_laws.proofs.Gaining.{Moves}
 use Rattle.tree_laws.proofs.Losing.{Unlinks, Removes, none_some}
 use Rattle.std.specs.Ordering.{nat_cmp}
 use Rattle.tree_laws.proofs.Lookups.{numbers_tell, removed_there, number_removed}
-use Rattle.tree_laws.proofs.Named as names_by
-use Rattle.tree_laws.proofs.Ordered as numbers_by
+use Rattle.tree_laws.proofs.Name.Order as names_by
+use Rattle.tree_laws.proofs.Node.Order as numbers_by
 use Rattle.tree_laws.proofs.Shape.{IsUnnamed, IsPlace, Same}
 use Rattle.tree_laws.proofs.TreeShape.{kind_in, entry_in, shape_of, same_shape, drop_shape, Links, add_shape, remove_shape, changed_here, changed_there, dead_is, not_named}
 
@@ -142,7 +142,7 @@ move_shape t p np x now n nn names folder differs =
     let two : Tree = drop_entry np nn now one in
     let three : Tree = add_entry np nn x now two in
     let first : Unlinks (shape_of t) (shape_of one) p n = drop_shape p n now t names in
-    let second : Unlinks (shape_of one) (shape_of two) np nn = drop_shape np nn now one (names_by.drop p n now t names) in
+    let second : Unlinks (shape_of one) (shape_of two) np nn = drop_shape np nn now one (names_by.NamesInOrder-drop_entry p n now t names) in
     let links : Links (shape_of two) (shape_of three) np nn x = add_shape np nn x now two (second.kind np ∙ first.kind np ∙ folder) in
     let same : Same (shape_of three) (shape_of (moved_to p n np nn x now t)) = same_shape (stamped now) (λ node. refl) (λ name node. refl) x three in
     record {
@@ -157,13 +157,13 @@ pub ordered_moved : (t : Tree) (p np x now : ℕ) (n nn : List ℕ) → InOrder 
 ordered_moved t p np x now n nn ordered =
     let one : Tree = drop_entry p n now t in
     let two : Tree = drop_entry np nn now one in
-    numbers_by.change (stamped now) x (add_entry np nn x now two) (numbers_by.change _ np two (numbers_by.change _ np one (numbers_by.change _ p t ordered)))
+    numbers_by.InOrder-change_node (stamped now) x (add_entry np nn x now two) (numbers_by.InOrder-change_node _ np two (numbers_by.InOrder-change_node _ np one (numbers_by.InOrder-change_node _ p t ordered)))
 
 pub names_moved : (t : Tree) (p np x now : ℕ) (n nn : List ℕ) → NamesInOrder t → NamesInOrder (moved_to p n np nn x now t)
 names_moved t p np x now n nn names =
     let one : Tree = drop_entry p n now t in
     let two : Tree = drop_entry np nn now one in
-    names_by.stamp now x (add_entry np nn x now two) (names_by.add np nn x now two (names_by.drop np nn now one (names_by.drop p n now t names)))
+    names_by.NamesInOrder-stamped now x (add_entry np nn x now two) (names_by.NamesInOrder-add_entry np nn x now two (names_by.NamesInOrder-drop_entry np nn now one (names_by.NamesInOrder-drop_entry p n now t names)))
 
 pub frame_moved : (t : Tree) (p np x now : ℕ) (n nn : List ℕ) → SameFrame t (moved_to p n np nn x now t)
 frame_moved t p np x now n nn =
@@ -247,7 +247,7 @@ still_dead r t ordered names dead left =
       | inl same ↦ none_some (entry_at after r m) r (removes.none m) (ap (λ k. entry_at after k m) (sym same) ∙ is)
       | inr apart ↦ parts.0 q m (sym (removes.entry q m apart) ∙ is)
     ] in
-    dead_stays (r == root) (is_named after r) (is_open after r) (ne_eqb r root parts.2) (not_named after (numbers_by.removed r t ordered) left r unnamed (is_named after r) refl)
+    dead_stays (r == root) (is_named after r) (is_open after r) (ne_eqb r root parts.2) (not_named after (numbers_by.InOrder-without_node r t ordered) left r unnamed (is_named after r) refl)
     (no_truth (is_open after r) parts.1)
 
 settles_if : (r now : ℕ) (t : Tree) → InOrder t → NamesInOrder t → (test : Bool) → lives (change_node r (stamped now) t) r ≡ test
@@ -259,9 +259,9 @@ settles_if r now t ordered names true is = record {
 }
 settles_if r now t ordered names false is =
     let six : Tree = change_node r (stamped now) t in
-    let six_ordered : InOrder six = numbers_by.change (stamped now) r t ordered in
-    let six_names : NamesInOrder six = names_by.stamp now r t names in
-    let left : NamesInOrder (without_node r six) = subst (λ b. NamesInOrder (cond b six (without_node r six))) is (names_by.settle r six six_names) in
+    let six_ordered : InOrder six = numbers_by.InOrder-change_node (stamped now) r t ordered in
+    let six_names : NamesInOrder six = names_by.NamesInOrder-stamped now r t names in
+    let left : NamesInOrder (without_node r six) = subst (λ b. NamesInOrder (cond b six (without_node r six))) is (names_by.NamesInOrder-settled r six six_names) in
     let same : SameFrame t six = frame_change (stamped now) r t in
     record {
       others = λ y apart. removed_there nat_cmp numbers_tell r y six.nodes apart ∙ changed_there (stamped now) r y t apart;

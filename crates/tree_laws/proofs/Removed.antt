@@ -26,18 +26,18 @@ use Rattle.tree_laws.specs.Changes.{ChangesOneNode}
 use Rattle.plain_tree.specs.Names.{NamesInOrder}
 use Rattle.plain_tree.specs.Numbers.{Ascend, InOrder}
 use Rattle.tree_laws.specs.Removals.{IsRemoved}
-use Rattle.tree_laws.proofs.Ascending.{ascend-left, ascend-filter}
+use Rattle.tree_laws.proofs.Node.Ascend.{ascend-left, ascend-filter}
 use Rattle.tree_laws.proofs.Bools.{left_true, right_true, either_true, differ, is_false}
 use Rattle.tree_laws.proofs.Branches.{Uproots}
 use Rattle.tree_laws.proofs.CopyShape.{kind_some, entry_some}
 use Rattle.tree_laws.proofs.Gaining.{IsBelow, root_inside, no_round}
-use Rattle.tree_laws.proofs.Grounded.{Rooted, grounded}
-use Rattle.tree_laws.proofs.Lasting.{reached_sound}
+use Rattle.tree_laws.proofs.MovedShape.{Rooted, grown_of}
+use Rattle.tree_laws.proofs.WellFormed.{reached_sound}
 use Rattle.tree_laws.proofs.Losing.{Unlinks}
-use Rattle.tree_laws.proofs.Named as names_by
+use Rattle.tree_laws.proofs.Name.Order as names_by
 use Rattle.tree_laws.proofs.Nodes.{same_number, changes_one}
-use Rattle.tree_laws.proofs.Ordered as numbers_by
-use Rattle.tree_laws.proofs.Passing.{all_pass}
+use Rattle.tree_laws.proofs.Node.Order as numbers_by
+use Rattle.tree_laws.proofs.Walk.Passed.{all_pass}
 use Rattle.tree_laws.proofs.Shape.{NoneGoes, IsPlace, not_there}
 use Rattle.tree_laws.proofs.Standing.{Sound, folder_is}
 use Rattle.tree_laws.proofs.Still.{absent}
@@ -186,8 +186,8 @@ removed_whole p n now x t sound names folder =
     let after : Tree = without_tree p n now (Some x) t in
     let among : IsBelow (shape_of t) x (is_among below) = below_shape t sound.names x in
     let unlinks : Unlinks (shape_of t) (shape_of unlinked) p n = drop_shape p n now t sound.names in
-    let in_order : InOrder unlinked = numbers_by.change _ p t sound.ordered in
-    let rising : NamesInOrder unlinked = names_by.drop p n now t sound.names in
+    let in_order : InOrder unlinked = numbers_by.InOrder-change_node _ p t sound.ordered in
+    let rising : NamesInOrder unlinked = names_by.NamesInOrder-drop_entry p n now t sound.names in
     let shape : Uproots (shape_of t) (shape_of after) p n (is_among below) = uproot_shape p n now x t sound.ordered sound.names sound.grown.rooted in
     let apart : is_among below p ≡ false =
     is_false (is_among below p) (λ within. no_round NoneGoes (shape_of t) x (is_among below) among sound.grown (λ no. no) folder p n within names) in
@@ -233,7 +233,7 @@ removed_whole p n now x t sound names folder =
               | inr named ↦
                   let from = names_it without
                   (ascend-filter 0 (λ (e : ℕ × Node). not (is_among below e.0 && is_directory e.1.content)) unlinked.nodes unlinked.next_inode in_order)
-                  (names_by.filtered (λ (e : ℕ × Node). not (is_among below e.0 && is_directory e.1.content)) unlinked.nodes rising) y named in
+                  (names_by.NamesRise-filter (λ (e : ℕ × Node). not (is_among below e.0 && is_directory e.1.content)) unlinked.nodes rising) y named in
                   let was = outer below from.0 from.1 y (node_at unlinked from.0) (ap (entry_in from.1) (sym (sifts from.0)) ∙ from.2) in
                   let other : IsPlace p n from.0 from.1 → ⊥ = λ place. not_there (entry_at unlinked) p n from.0 from.1 y place unlinks.gone was.1 in
                   inl (record { holder = from.0; by = from.1; outside = was.0; other = other; names = sym (unlinks.rest from.0 from.1 other) ∙ was.1 })
@@ -278,7 +278,7 @@ removed_by t sound pass now p n done =
 pub removed_in : (t : Tree) → InOrder t → NamesInOrder t → HasOneTree t → HasNoOrphans t → (pass now parent : ℕ) (name : List ℕ) → reply_to t pass (ops.RemoveTree parent name) now ≡ replies.Done
     → IsRemoved parent name now t (tree_after t pass (ops.RemoveTree parent name) now)
 removed_in t ordered names tree orphans pass now parent name done =
-    removed_by t (record { ordered = ordered; names = names; grown = grounded t ordered names tree orphans }) pass now parent name done
+    removed_by t (record { ordered = ordered; names = names; grown = grown_of t ordered names tree orphans }) pass now parent name done
 
 -- every tree that calls lead to
 pub removed_after : (block_size time : ℕ) (calls : List Request) (pass now parent : ℕ) (name : List ℕ)

@@ -1,14 +1,13 @@
 -- One tree of names without orphans, through a rename.
-use Rattle.std.proofs.Common.{◌≡◌, ◌≢◌, ℕ, List, [], Bool, true, false, cond, Option, None, Some, refl, sym, ap, ◌∙◌, inl, inr, subst}
-use Rattle.std.specs.Prelude.{◌==◌, ◌&&◌, option_and_then}
+use Rattle.std.proofs.Common.{◌≡◌, ◌≢◌, ℕ, List, Bool, true, false, Option, None, Some, refl, sym, ap, ◌∙◌, inl, inr, subst}
+use Rattle.std.specs.Prelude.{◌==◌, ◌&&◌, unwrap_or, option_and_then}
 use Rattle.std.proofs.lemmas.Bool.{eqb-true, eq-eqb, ne_eqb}
 use Rattle.s3_base.specs.declared.node_kind.Kind.{Kind}
 use Rattle.s3_base.specs.declared.node_kind.Kind.TheVariants as kinds
 use Rattle.plain_tree.specs.Attributes.{kind_of}
 use Rattle.plain_tree.specs.Below.{is_among, at_and_below, is_at_or_below}
-use Rattle.plain_tree.specs.Checks.{keep_check, entry_check}
+use Rattle.plain_tree.specs.Checks.{keep_check, entry_check, empty_check}
 use Rattle.plain_tree.specs.Entries.{is_directory, is_folder, entry_at, add_entry, drop_entry}
-use Rattle.plain_tree.specs.Operations.{move_checks}
 use Rattle.plain_tree.specs.Subtrees.{is_same, dropped, moved_entry}
 use Rattle.plain_tree.specs.Tree.{Content, Regular, Directory, Link, Node, Tree, node_at, change_node, stamped}
 use Rattle.plain_tree.specs.Names.{NamesInOrder}
@@ -16,12 +15,12 @@ use Rattle.plain_tree.specs.Numbers.{InOrder}
 use Rattle.tree_laws.proofs.Bools.{left_false}
 use Rattle.tree_laws.proofs.Gaining.{IsBelow, Moves, moved}
 use Rattle.tree_laws.proofs.Losing.{Unlinks, none_some, unlinked}
-use Rattle.tree_laws.proofs.Named as names_by
-use Rattle.tree_laws.proofs.Ordered as numbers_by
-use Rattle.tree_laws.proofs.Passing.{AllPass, not_failed}
+use Rattle.tree_laws.proofs.Name.Order as names_by
+use Rattle.tree_laws.proofs.Node.Order as numbers_by
 use Rattle.tree_laws.proofs.Shape.{Grown, NoneGoes, Only, IsPlace, one_entry, not_there, Same}
-use Rattle.tree_laws.proofs.Standing.{Sound, empty_is, keep_is, lost}
+use Rattle.tree_laws.proofs.Standing.{Sound, folder_is, empty_is, keep_is, lost}
 use Rattle.tree_laws.proofs.TreeShape.{kind_in, shape_of, same_shape, drop_shape, Links, add_shape}
+use Rattle.tree_laws.proofs.Walk.Passed.{CanMove}
 use Rattle.tree_laws.proofs.Walked.{below_shape}
 
 -- what lies at and below the node that moves, and where it goes is not there
@@ -80,7 +79,7 @@ move_shape t p np x now n nn names folder differs =
     let two : Tree = drop_entry np nn now one in
     let three : Tree = add_entry np nn x now two in
     let first : Unlinks (shape_of t) (shape_of one) p n = drop_shape p n now t names in
-    let second : Unlinks (shape_of one) (shape_of two) np nn = drop_shape np nn now one (names_by.drop p n now t names) in
+    let second : Unlinks (shape_of one) (shape_of two) np nn = drop_shape np nn now one (names_by.NamesInOrder-drop_entry p n now t names) in
     let links : Links (shape_of two) (shape_of three) np nn x = add_shape np nn x now two (second.kind np ∙ first.kind np ∙ folder) in
     let same : Same (shape_of three) (shape_of (moved_to p n np nn x now t)) = same_shape (stamped now) (λ node. refl) (λ name node. refl) x three in
     record {
@@ -95,13 +94,13 @@ ordered_moved : (t : Tree) (p np x now : ℕ) (n nn : List ℕ) → InOrder t �
 ordered_moved t p np x now n nn ordered =
     let one : Tree = drop_entry p n now t in
     let two : Tree = drop_entry np nn now one in
-    numbers_by.change (stamped now) x (add_entry np nn x now two) (numbers_by.change _ np two (numbers_by.change _ np one (numbers_by.change _ p t ordered)))
+    numbers_by.InOrder-change_node (stamped now) x (add_entry np nn x now two) (numbers_by.InOrder-change_node _ np two (numbers_by.InOrder-change_node _ np one (numbers_by.InOrder-change_node _ p t ordered)))
 
 names_moved : (t : Tree) (p np x now : ℕ) (n nn : List ℕ) → NamesInOrder t → NamesInOrder (moved_to p n np nn x now t)
 names_moved t p np x now n nn names =
     let one : Tree = drop_entry p n now t in
     let two : Tree = drop_entry np nn now one in
-    names_by.stamp now x (add_entry np nn x now two) (names_by.add np nn x now two (names_by.drop np nn now one (names_by.drop p n now t names)))
+    names_by.NamesInOrder-stamped now x (add_entry np nn x now two) (names_by.NamesInOrder-add_entry np nn x now two (names_by.NamesInOrder-drop_entry np nn now one (names_by.NamesInOrder-drop_entry p n now t names)))
 
 -- ---- a rename
 
@@ -170,25 +169,25 @@ differ_if r x is same =
     let both_ways : true ≡ false = sym (eq-eqb r x (sym same)) ∙ is in
     cc both_ways
 
-renamed_if : (t : Tree) (p np now : ℕ) (n nn : List ℕ) → Sound t → (found replaced : Option ℕ) → entry_at t p n ≡ found → entry_at t np nn ≡ replaced → kind_in (node_at t np) ≡ Some kinds.Directory
-    → keep_check p n ≡ None → keep_check np nn ≡ None → entry_check found ≡ None → (test : Bool) → is_same replaced found ≡ test
-    → AllPass (cond test [] (move_checks t found (option_and_then (node_at t) found) (option_and_then (node_at t) replaced) np))
-    → Grown NoneGoes (shape_of (cond test t (moved_entry p n np nn now found t)))
-renamed_if t p np now n nn sound found replaced names new folder keep new_keep there true same passes = sound.grown
-renamed_if t p np now n nn sound None replaced names new folder keep new_keep there false same passes = absurd (cc there)
-renamed_if t p np now n nn sound (Some x) None names new folder keep new_keep there false same passes =
+renamed_if : (t : Tree) (p : ℕ) (n : List ℕ) (np : ℕ) (nn : List ℕ) (now : ℕ) → Sound t → CanMove t p n np nn → (found replaced : Option ℕ) → entry_at t p n ≡ found → entry_at t np nn ≡ replaced
+    → Grown NoneGoes (shape_of (moved_entry p n np nn now found t))
+renamed_if t p n np nn now sound can None replaced names new = absurd (cc (ap entry_check (sym names) ∙ can.rename.entry))
+renamed_if t p n np nn now sound can (Some x) replaced names new =
+    let folder : kind_in (node_at t np) ≡ Some kinds.Directory = folder_is (node_at t np) can.rename.new_there can.rename.new_folder in
     let node = sound.grown.there p x n names in
-    let branch : Branch t x np = branch_of t x np node.0 sound node.1 folder (not_failed 22 _ passes.0) in
-    subst (λ r. Grown NoneGoes (shape_of (dropped now r (moved_to p n np nn x now t)))) (sym new) (to_a_new_name t p np x now n nn sound branch names new folder keep)
-renamed_if t p np now n nn sound (Some x) (Some r) names new folder keep new_keep there false same passes =
-    let node = sound.grown.there p x n names in
-    let branch : Branch t x np = branch_of t x np node.0 sound node.1 folder (not_failed 22 _ passes.0) in
-    subst (λ r. Grown NoneGoes (shape_of (dropped now r (moved_to p n np nn x now t)))) (sym new)
-    (lost r now (moved_to p n np nn x now t) (ordered_moved t p np x now n nn sound.ordered) (names_moved t p np x now n nn sound.names)
-    (over_another t p np x r now n nn sound branch names new (differ_if r x same) folder keep new_keep (empty_is (node_at t r) passes.1.1.1.1.0)))
+    let outside : (is_at_or_below t x np && is_folder (node_at t x)) ≡ false =
+    ap (λ o. is_at_or_below t (unwrap_or o 0) np && is_folder (option_and_then (node_at t) o)) (sym names) ∙ can.outside in
+    let branch : Branch t x np = branch_of t x np node.0 sound node.1 folder outside in
+    elim replaced as (λ r. entry_at t np nn ≡ r → Grown NoneGoes (shape_of (moved_entry p n np nn now (Some x) t))) [
+      | None ↦ λ new. subst (λ r. Grown NoneGoes (shape_of (dropped now r (moved_to p n np nn x now t)))) (sym new)
+          (to_a_new_name t p np x now n nn sound branch names new folder can.rename.kept)
+      | Some r ↦ λ new.
+          let differs : (r == x) ≡ false = ap (λ o. is_same o (Some x)) (sym new) ∙ ap (is_same (entry_at t np nn)) (sym names) ∙ can.differs in
+          let empty : empty_check (node_at t r) ≡ None = ap (λ o. empty_check (option_and_then (node_at t) o)) (sym new) ∙ can.empty in
+          subst (λ r. Grown NoneGoes (shape_of (dropped now r (moved_to p n np nn x now t)))) (sym new)
+          (lost r now (moved_to p n np nn x now t) (ordered_moved t p np x now n nn sound.ordered) (names_moved t p np x now n nn sound.names)
+          (over_another t p np x r now n nn sound branch names new (differ_if r x differs) folder can.rename.kept can.rename.new_kept (empty_is (node_at t r) empty)))
+    ] new
 
-pub renamed : (t : Tree) (p np now : ℕ) (n nn : List ℕ) → Sound t → kind_in (node_at t np) ≡ Some kinds.Directory → keep_check p n ≡ None → keep_check np nn ≡ None → entry_check (entry_at t p n) ≡ None
-    → AllPass (cond (is_same (entry_at t np nn) (entry_at t p n)) [] (move_checks t (entry_at t p n) (option_and_then (node_at t) (entry_at t p n)) (option_and_then (node_at t) (entry_at t np nn)) np))
-    → Grown NoneGoes (shape_of (cond (is_same (entry_at t np nn) (entry_at t p n)) t (moved_entry p n np nn now (entry_at t p n) t)))
-renamed t p np now n nn sound folder keep new_keep there passes =
-    renamed_if t p np now n nn sound (entry_at t p n) (entry_at t np nn) refl refl folder keep new_keep there (is_same (entry_at t np nn) (entry_at t p n)) refl passes
+pub renamed : (t : Tree) (p : ℕ) (n : List ℕ) (np : ℕ) (nn : List ℕ) (now : ℕ) → Sound t → CanMove t p n np nn → Grown NoneGoes (shape_of (moved_entry p n np nn now (entry_at t p n) t))
+renamed t p n np nn now sound can = renamed_if t p n np nn now sound can (entry_at t p n) (entry_at t np nn) refl refl

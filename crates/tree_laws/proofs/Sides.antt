@@ -12,16 +12,12 @@ use Rattle.plain_tree.specs.Checks.{first_failure}
 use Rattle.plain_tree.specs.Files.{inode_of, with_bytes, written_at}
 use Rattle.plain_tree.specs.Operations.{checks, reply_to, tree_after}
 use Rattle.plain_tree.specs.Tree.{Node, Tree, made_tree, node_at, handle_of, change_node, touched}
-use Rattle.plain_tree.specs.WellFormed.{HasOneTree}
+use Rattle.plain_tree.specs.WellFormed.{IsWellFormed}
 use Rattle.plain_tree.proofs.Replies.{tree_at}
 use Rattle.tree_laws.specs.Copies.{number_of, node_written, IsCopied, AreApart}
-use Rattle.plain_tree.specs.Names.{NamesInOrder}
-use Rattle.plain_tree.specs.Numbers.{InOrder}
 use Rattle.tree_laws.proofs.Alone.{stays_alone}
 use Rattle.tree_laws.proofs.Copied.{CanBeCopied, node_below, can_be, copy_done}
-use Rattle.tree_laws.proofs.Lasting.{one_tree}
-use Rattle.tree_laws.proofs.Named.{reached_named}
-use Rattle.tree_laws.proofs.Ordered.{reached_ordered}
+use Rattle.tree_laws.proofs.WellFormed.{reached_well_formed}
 use Rattle.tree_laws.proofs.Still.{present}
 use Rattle.tree_laws.proofs.TreeShape.{changed_there}
 
@@ -66,7 +62,5 @@ pub reached_copy : (block_size time : ℕ) (calls : List Request) (pass now sour
     × ((later : Tree) → AreApart source (tree_after_all (made_tree block_size time) calls) later)
 reached_copy block_size time calls pass now source p n attr replied =
     let t : Tree = tree_after_all (made_tree block_size time) calls in
-    let ordered : InOrder t = reached_ordered block_size time calls in
-    let names : NamesInOrder t = reached_named block_size time calls in
-    let tree : HasOneTree t = one_tree block_size time calls in
-    (copy_done t pass now source p n attr ordered names tree replied, λ later. sides_apart t later source p n (can_be t pass now source p n attr ordered names tree replied))
+    let well : IsWellFormed t = reached_well_formed block_size time calls in
+    (copy_done t pass now source p n attr well.nodes well.names well.tree replied, λ later. sides_apart t later source p n (can_be t pass now source p n attr well.nodes well.names well.tree replied))

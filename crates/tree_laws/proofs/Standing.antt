@@ -1,5 +1,5 @@
 -- One tree of names without orphans, through every operation.
-use Rattle.std.proofs.Common.{◌≡◌, ◌≢◌, ◌≤◌, ℕ, List, [], ◌∷◌, Bool, true, false, cond, Option, None, Some, refl, sym, ap, ◌∙◌, inl, inr, subst, arith}
+use Rattle.std.proofs.Common.{◌≡◌, ◌≢◌, ◌≤◌, ℕ, List, [], ◌∷◌, Bool, true, false, Option, None, Some, refl, sym, ap, ◌∙◌, inl, inr, subst, arith}
 use Rattle.std.specs.Prelude.{length, is_some, unwrap_or, option_and_then}
 use Rattle.std.specs.BTreeMap.{is_at}
 use Rattle.std.specs.Cmp.Lexicographic.{slice_cmp}
@@ -15,7 +15,7 @@ use Rattle.plain_tree.specs.Entries.{entries_of, is_directory, entry_at, is_open
 use Rattle.plain_tree.specs.Files.{file_at, open_file, inode_of, with_bytes}
 use Rattle.plain_tree.specs.Operations.{new_file, HandlesBelow}
 use Rattle.plain_tree.specs.Subtrees.{dropped, copy_number, with_copy, without_tree}
-use Rattle.plain_tree.specs.Tree.{Content, Regular, Directory, Link, Node, Handle, Tree, root, lost_and_found, node_at, entry_of, handle_of, change_node, with_node, with_handle, without_handle, without_node, touched, stamped}
+use Rattle.plain_tree.specs.Tree.{Content, Regular, Directory, Link, Node, Handle, Tree, root, lost_and_found, node_at, entry_of, handle_of, change_node, with_node, with_handle, without_handle, without_node, stamped}
 use Rattle.plain_tree.specs.Names.{NamesInOrder}
 use Rattle.plain_tree.specs.Numbers.{InOrder}
 use Rattle.tree_laws.proofs.Branches as branches
@@ -24,10 +24,10 @@ use Rattle.tree_laws.proofs.CopyShape.{none_at, copy_shape}
 use Rattle.tree_laws.proofs.Gaining as gaining
 use Rattle.tree_laws.proofs.Losing as losing
 use Rattle.tree_laws.proofs.Losing.{none_some}
-use Rattle.tree_laws.proofs.Named as names_by
+use Rattle.tree_laws.proofs.Name.Order as names_by
 use Rattle.tree_laws.proofs.Nodes.{node_of_file}
-use Rattle.tree_laws.proofs.Ordered as numbers_by
-use Rattle.tree_laws.proofs.Passing.{not_failed}
+use Rattle.tree_laws.proofs.Node.Order as numbers_by
+use Rattle.tree_laws.proofs.Walk.Passed.{not_failed}
 use Rattle.tree_laws.proofs.Shape.{Shape, Grown, NoneGoes, Only, IsPlace, grown_same}
 use Rattle.tree_laws.proofs.SubtreeShape.{own_is, close_shape, uproot_shape}
 use Rattle.tree_laws.proofs.TreeShape.{kind_in, entry_in, shape_of, same_shape, drop_shape, Links, add_shape, node_made, node_kept, remove_shape, settle_shape, opened_was, opened_stays}
@@ -107,22 +107,15 @@ pub alike : (f : Node → Node) → ((node : Node) → kind_of (f node).content 
     → (but : ℕ → Type 0) (i : ℕ) (t : Tree) → Grown but (shape_of t) → Grown but (shape_of (change_node i f t))
 alike f kind entry but i t grown = grown_same but (shape_of t) (shape_of (change_node i f t)) (same_shape f kind entry i t) grown
 
-kind_bytes : (f : List ℕ → List ℕ) (content : Content) → kind_of (with_bytes f content) ≡ kind_of content
+pub kind_bytes : (f : List ℕ → List ℕ) (content : Content) → kind_of (with_bytes f content) ≡ kind_of content
 kind_bytes f (Regular bytes) = refl
 kind_bytes f (Directory entries) = refl
 kind_bytes f (Link target) = refl
 
-entry_bytes : (f : List ℕ → List ℕ) (name : List ℕ) (content : Content) → entry_of (with_bytes f content) name ≡ entry_of content name
+pub entry_bytes : (f : List ℕ → List ℕ) (name : List ℕ) (content : Content) → entry_of (with_bytes f content) name ≡ entry_of content name
 entry_bytes f name (Regular bytes) = refl
 entry_bytes f name (Directory entries) = refl
 entry_bytes f name (Link target) = refl
-
-pub rewritten : (f : List ℕ → List ℕ) (now i : ℕ) (t : Tree) → Grown NoneGoes (shape_of t) → Grown NoneGoes (shape_of (change_node i (λ node. touched now (record node { content = with_bytes f node.content })) t))
-rewritten f now i t grown = alike _ (λ node. kind_bytes f node.content) (λ name node. entry_bytes f name node.content) NoneGoes i t grown
-
-pub either : (test : Bool) (a b : Tree) → Grown NoneGoes (shape_of a) → (test ≡ false → Grown NoneGoes (shape_of b)) → Grown NoneGoes (shape_of (cond test a b))
-either true a b first second = first
-either false a b first second = second refl
 
 pub stamp : (but : ℕ → Type 0) (now i : ℕ) (t : Tree) → Grown but (shape_of t) → Grown but (shape_of (change_node i (stamped now) t))
 stamp but now i t grown = alike (stamped now) (λ node. refl) (λ name node. refl) but i t grown
@@ -238,14 +231,14 @@ released t pass number sound passes =
 -- a node that lost an entry is stamped, and goes where nothing keeps it
 pub lost : (x now : ℕ) (t : Tree) → InOrder t → NamesInOrder t → Grown (Only x) (shape_of t) → Grown NoneGoes (shape_of (settled x (change_node x (stamped now) t)))
 lost x now t ordered names grown =
-    settle_shape x (change_node x (stamped now) t) (numbers_by.change (stamped now) x t ordered) (names_by.stamp now x t names) (stamp (Only x) now x t grown)
+    settle_shape x (change_node x (stamped now) t) (numbers_by.InOrder-change_node (stamped now) x t ordered) (names_by.NamesInOrder-stamped now x t names) (stamp (Only x) now x t grown)
 
 pub unlinks : (t : Tree) (p : ℕ) (n : List ℕ) (now : ℕ) → Sound t → (found : Option ℕ) → entry_at t p n ≡ found → keep_check p n ≡ None → entry_check found ≡ None
     → no_directory_check 21 (option_and_then (node_at t) found) ≡ None → Grown NoneGoes (shape_of (dropped now found (drop_entry p n now t)))
 unlinks t p n now sound None is keep there file = absurd (cc there)
 unlinks t p n now sound (Some x) is keep there file =
     let one : Tree = drop_entry p n now t in
-    lost x now one (numbers_by.change _ p t sound.ordered) (names_by.drop p n now t sound.names)
+    lost x now one (numbers_by.InOrder-change_node _ p t sound.ordered) (names_by.NamesInOrder-drop_entry p n now t sound.names)
     (losing.unlinked (shape_of t) (shape_of one) p x n (drop_shape p n now t sound.names) sound.grown is (keep_is p n keep)
     (file_entries (shape_of t) sound.grown x (no_folder_is 21 (node_at t x) file)))
 
@@ -261,7 +254,7 @@ unmade t p n now sound (Some x) is keep there folder empty =
     let grown : Grown (Only x) (shape_of one) =
     losing.unlinked (shape_of t) (shape_of one) p x n drops sound.grown is (keep_is p n keep) (empty_is (node_at t x) empty) in
     let still : kind_in (node_at one x) ≡ Some kinds.Directory = drops.kind x ∙ kind in
-    losing.removed (shape_of one) (shape_of (without_node x one)) x (remove_shape x one (numbers_by.change _ p t sound.ordered)) grown (grown.bare x refl still)
+    losing.removed (shape_of one) (shape_of (without_node x one)) x (remove_shape x one (numbers_by.InOrder-change_node _ p t sound.ordered)) grown (grown.bare x refl still)
     (λ opened.
     let both_ways : Some kinds.Directory ≡ Some kinds.Regular = sym still ∙ grown.handles x opened in
     cc both_ways)

@@ -24,7 +24,7 @@ use Rattle.plain_tree.specs.Numbers.{InOrder}
 use Rattle.tree_laws.proofs.Checked.{first_passes}
 use Rattle.tree_laws.proofs.Locked.{first_of, refused}
 use Rattle.tree_laws.proofs.Nodes.{same_number, found_itself, changes_one}
-use Rattle.tree_laws.proofs.Ordered.{change, ordered_after}
+use Rattle.tree_laws.proofs.Node.Order.{InOrder-change_node, InOrder-tree_after}
 use Rattle.tree_laws.proofs.Still.{Still, still_same, still_equal, still_gone, still_later, still_removed, still_left, absent, present, found_inserted, found_before}
 use Rattle.tree_laws.proofs.Visited.{copies_ascend}
 
@@ -97,7 +97,7 @@ drop : (now : ℕ) (x : Option ℕ) (inode : ℕ) (t : Tree) → InOrder t → S
 drop now None inode t ordered = stay inode t
 drop now (Some x) inode t ordered =
     let marked : Tree = change_node x (stamped now) t in
-    both inode t marked (settled x marked) (stamp now x inode t) (settle x inode marked (change (stamped now) x t ordered))
+    both inode t marked (settled x marked) (stamp now x inode t) (settle x inode marked (InOrder-change_node (stamped now) x t ordered))
 
 found_made : (node : Node) (inode : ℕ) (t : Tree) → InOrder t → inode < t.next_inode → node_at (with_node node t) inode ≡ node_at t inode
 found_made node inode t ordered fits = found_inserted inode 0 t.nodes t.next_inode node ordered fits
@@ -123,12 +123,12 @@ moved parent name new_parent new_name now (Some x) inode t ordered safe new_safe
     let four : Tree = change_node x (stamped now) three in
     let in_one : node_at one inode ≡ node_at t inode = found_same _ parent inode t safe in
     let in_two : node_at two inode ≡ node_at t inode = found_same _ new_parent inode one (λ is. in_one ∙ new_safe is) ∙ in_one in
-    let ordered_three : InOrder three = change _ new_parent two (change _ new_parent one (change _ parent t ordered)) in
+    let ordered_three : InOrder three = InOrder-change_node _ new_parent two (InOrder-change_node _ new_parent one (InOrder-change_node _ parent t ordered)) in
     both inode t one (dropped now (entry_at t new_parent new_name) four) (other _ parent inode t safe)
     (both inode one two (dropped now (entry_at t new_parent new_name) four) (other _ new_parent inode one (λ is. in_one ∙ new_safe is))
     (both inode two three (dropped now (entry_at t new_parent new_name) four) (other _ new_parent inode two (λ is. in_two ∙ new_safe is))
     (both inode three four (dropped now (entry_at t new_parent new_name) four) (stamp now x inode three)
-    (drop now (entry_at t new_parent new_name) inode four (change (stamped now) x three ordered_three)))))
+    (drop now (entry_at t new_parent new_name) inode four (InOrder-change_node (stamped now) x three ordered_three)))))
 
 copied : (source parent : ℕ) (name : List ℕ) (now inode : ℕ) (t : Tree) → inode < t.next_inode → (parent ≡ inode → node_at t inode ≡ None)
     → Stays inode t (with_copy source parent name now t)
@@ -173,7 +173,7 @@ uprooted parent name now (Some x) inode t ordered safe =
     let without : Tree = without_directories below unlinked in
     let left : Still (node_at unlinked inode) (lookup (is_at (nat_cmp inode)) (filter_map (left_over without below now) unlinked.nodes)) =
     still_left (left_over without below now) (λ e. leaves (is_among below e.0) (lives without e.0 && not (is_directory e.1.content)) now e)
-    inode 0 unlinked.nodes unlinked.next_inode (change _ parent t ordered) in
+    inode 0 unlinked.nodes unlinked.next_inode (InOrder-change_node _ parent t ordered) in
     both inode t unlinked (without_tree parent name now (Some x) t) (other _ parent inode t safe) (record { next = omega arith; still = left })
 
 still_if : (test : Bool) (found : Option Node) → Still found (cond test found None)
@@ -227,11 +227,11 @@ stays_by t pass now inode (ops.Create parent name mode uid gid) guarded passes =
 stays_by t pass now inode (ops.Unlink parent name) guarded passes =
     let one : Tree = drop_entry parent name now t in
     both inode t one (dropped now (entry_at t parent name) one) (other _ parent inode t (λ is. safe t pass inode (ops.Unlink parent name) guarded passes (inl is)))
-    (drop now (entry_at t parent name) inode one (change _ parent t guarded.ordered))
+    (drop now (entry_at t parent name) inode one (InOrder-change_node _ parent t guarded.ordered))
 stays_by t pass now inode (ops.Rmdir parent name) guarded passes =
     let one : Tree = drop_entry parent name now t in
     both inode t one (effect t pass (ops.Rmdir parent name) now) (other _ parent inode t (λ is. safe t pass inode (ops.Rmdir parent name) guarded passes (inl is)))
-    (without _ inode one (change _ parent t guarded.ordered))
+    (without _ inode one (InOrder-change_node _ parent t guarded.ordered))
 stays_by t pass now inode (ops.Rename parent name new_parent new_name) guarded passes =
     either inode t (is_same (entry_at t new_parent new_name) (entry_at t parent name)) t (moved_entry parent name new_parent new_name now (entry_at t parent name) t) (stay inode t)
     (moved parent name new_parent new_name now (entry_at t parent name) inode t guarded.ordered
@@ -296,7 +296,7 @@ guarded_after : (t : Tree) (pass now inode : ℕ) (op : Op) → Guarded inode t 
 guarded_after t pass now inode op guarded =
     let stays : Stays inode t (tree_after t pass op now) = stays_if t pass now inode op _ refl guarded in
     record {
-      ordered = ordered_after t pass now op guarded.ordered;
+      ordered = InOrder-tree_after t pass now op guarded.ordered;
       fits = omega (arith, guarded.fits, stays.next);
       locked = locked_on (node_at t inode) (node_at (tree_after t pass op now) inode) stays.still guarded.locked;
     }

@@ -17,14 +17,14 @@ use Rattle.plain_tree.specs.Subtrees.{with_lock, left_over, without_directories,
 use Rattle.plain_tree.specs.Tree.{Content, Regular, Directory, Link, Node, Handle, Tree, root, node_at, entry_of, own_handle, without_handle, stamped}
 use Rattle.plain_tree.specs.Names.{NamesInOrder}
 use Rattle.plain_tree.specs.Numbers.{Ascend, InOrder}
-use Rattle.tree_laws.proofs.Ascending.{ascend-left, ascend-filter}
+use Rattle.tree_laws.proofs.Node.Ascend.{ascend-left, ascend-filter}
 use Rattle.tree_laws.proofs.Bools.{left_true, right_true, either_true, left_false, differ, is_false}
 use Rattle.tree_laws.proofs.Branches.{Uproots}
 use Rattle.tree_laws.proofs.CopyShape.{kind_some, entry_some}
 use Rattle.tree_laws.proofs.Losing.{Unlinks, Closes, Sweeps, none_some}
-use Rattle.tree_laws.proofs.Named as names_by
+use Rattle.tree_laws.proofs.Name.Order as names_by
 use Rattle.tree_laws.proofs.Nodes.{same_number}
-use Rattle.tree_laws.proofs.Ordered as numbers_by
+use Rattle.tree_laws.proofs.Node.Order as numbers_by
 use Rattle.tree_laws.proofs.Shape.{Same}
 use Rattle.tree_laws.proofs.Still.{absent}
 use Rattle.tree_laws.proofs.TreeShape.{kind_in, entry_in, shape_of, drop_shape, is_named_by, dead_is, alive_is}
@@ -302,8 +302,8 @@ uproot_shape p n now x t ordered names rooted =
     let without : Tree = without_directories below unlinked in
     let after : Tree = without_tree p n now (Some x) t in
     let unlinks : Unlinks (shape_of t) (shape_of unlinked) p n = drop_shape p n now t names in
-    let in_order : InOrder unlinked = numbers_by.change _ p t ordered in
-    let rising : NamesInOrder unlinked = names_by.drop p n now t names in
+    let in_order : InOrder unlinked = numbers_by.InOrder-change_node _ p t ordered in
+    let rising : NamesInOrder unlinked = names_by.NamesInOrder-drop_entry p n now t names in
     let found : (y : ℕ) → node_at after y ≡ kept_of (left_over without below now) y (node_at unlinked y) =
     λ y.
     found_left (left_over without below now)
@@ -348,7 +348,7 @@ uproot_shape p n now x t ordered names rooted =
           no_folder old.0.content old.3 (sym folder) in
           alive_is without
           (ascend-filter 0 (λ (e : ℕ × Node). not (is_among below e.0 && is_directory e.1.content)) unlinked.nodes unlinked.next_inode in_order)
-          (names_by.filtered (λ (e : ℕ × Node). not (is_among below e.0 && is_directory e.1.content)) unlinked.nodes rising)
+          (names_by.NamesRise-filter (λ (e : ℕ × Node). not (is_among below e.0 && is_directory e.1.content)) unlinked.nodes rising)
           y old.2
           (λ q m names_y.
           let holder = entry_some m y (node_at without q) names_y in

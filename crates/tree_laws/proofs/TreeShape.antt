@@ -22,7 +22,7 @@ use Rattle.plain_tree.specs.Numbers.{Ascend, InOrder}
 use Rattle.tree_laws.proofs.Bools.{left_true, right_true, either_true}
 use Rattle.tree_laws.proofs.Losing.{Unlinks, Removes, none_some, removed, spared}
 use Rattle.tree_laws.proofs.Lookups.{numbers_tell, names_tell, inserted_here, inserted_there, removed_there, number_removed, name_removed, named_in, any_named}
-use Rattle.tree_laws.proofs.Named as names_by
+use Rattle.tree_laws.proofs.Name.Order as names_by
 use Rattle.tree_laws.proofs.Nodes.{found_itself, changes_one, own_number, other_number}
 use Rattle.tree_laws.proofs.Shape.{Shape, IsUnnamed, Grown, NoneGoes, Only, IsPlace, Same}
 use Rattle.tree_laws.proofs.Still.{absent}
@@ -119,7 +119,7 @@ unnamed_found now name None rise = refl
 unnamed_found now name (Some node) rise = unnamed_here name node.content (rise node refl)
 
 pub rise_at : (t : Tree) → NamesInOrder t → (i : ℕ) (node : Node) → node_at t i ≡ Some node → Rise (keys_of (entries_of node.content))
-rise_at t names i node is = names_by.found (is_at (nat_cmp i)) t.nodes node names is
+rise_at t names i node is = names_by.rise-found (is_at (nat_cmp i)) t.nodes node names is
 
 pub drop_shape : (p : ℕ) (n : List ℕ) (now : ℕ) (t : Tree) → NamesInOrder t → Unlinks (shape_of t) (shape_of (drop_entry p n now t)) p n
 drop_shape p n now t names =

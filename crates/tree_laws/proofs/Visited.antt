@@ -8,7 +8,7 @@ use Rattle.plain_tree.specs.Tree.{Node, Tree, node_at}
 use Rattle.plain_tree.specs.Below.{is_among, children, walk, at_and_below}
 use Rattle.plain_tree.specs.Subtrees.{place_of, copy_number, copied_node, copies}
 use Rattle.plain_tree.specs.Numbers.{Ascend}
-use Rattle.tree_laws.proofs.Ascending.{lower}
+use Rattle.tree_laws.proofs.Node.Ascend.{lower}
 use Rattle.tree_laws.proofs.Bools.{both_false}
 
 -- each is none of those before it

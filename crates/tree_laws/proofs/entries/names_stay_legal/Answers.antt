@@ -1,5 +1,5 @@
-use Rattle.tree_laws.proofs.Legal.{reached_legal}
+use Rattle.tree_laws.proofs.WellFormed.{reached_well_formed}
 use Rattle.tree_laws.proofs.entries.names_stay_legal.Goals as goal
 
 pub returns : goal.returns
-returns c = λ block_size time calls parent inode name is. reached_legal block_size time calls parent inode name is
+returns c = λ block_size time calls parent inode name is. (reached_well_formed block_size time calls).tree.names parent inode name is

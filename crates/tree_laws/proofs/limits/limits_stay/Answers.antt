@@ -1,5 +1,5 @@
-use Rattle.tree_laws.proofs.Limited.{reached_limits}
+use Rattle.tree_laws.proofs.WellFormed.{reached_well_formed}
 use Rattle.tree_laws.proofs.limits.limits_stay.Goals as goal
 
 pub returns : goal.returns
-returns c = λ block_size time calls. reached_limits block_size time calls
+returns c = λ block_size time calls. (reached_well_formed block_size time calls).rules

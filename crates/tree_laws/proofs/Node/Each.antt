@@ -1,0 +1,153 @@
+-- A fact of every node, through all operations.
+use Rattle.std.proofs.Common.{◌≡◌, ℕ, List, [], ◌∷◌, ◌++◌, Bool, true, false, cond, Option, None, Some, refl, subst}
+use Rattle.std.specs.Prelude.{◌==◌, not, ◌&&◌, map}
+use Rattle.std.specs.BTreeMap.{is_at, insert_entry}
+use Rattle.std.specs.List.{filter, filter_map, cons_option}
+use Rattle.std.specs.Map.{lookup, set_value, remove_entry}
+use Rattle.std.specs.Ordering.{nat_cmp, match_ordering}
+use Rattle.std.specs.declared.cmp.Ordering.{Ordering}
+use Rattle.std.specs.declared.cmp.Ordering.TheVariants.{Less, Equal, Greater}
+use Rattle.op_frames.specs.declared.operation.Op.{Op}
+use Rattle.plain_tree.specs.Below.{is_among, at_and_below}
+use Rattle.plain_tree.specs.Entries.{is_directory, lives, settled}
+use Rattle.plain_tree.specs.Operations.{tree_after}
+use Rattle.plain_tree.specs.Subtrees.{copied_node, copy_number, copies, left_over, without_directories}
+use Rattle.plain_tree.specs.Tree.{Node, Tree, node_at, change_node, changed_by, without_node, stamped}
+use Rattle.tree_laws.proofs.Walk.Calls.{walk-tree_after}
+use Rattle.tree_laws.proofs.Walk.Edits.{Edit, Stamp, edited, Fits, NewNode, built, Begins}
+use Rattle.tree_laws.proofs.Walk.Operations.{Walk}
+
+-- the fact holds of every node
+abbrev pub Each : (Node → Type 0) → List (ℕ × Node) → Type 0
+Each good [] = Unit {0}
+Each good (e ∷ es) = good e.1 × Each good es
+
+-- a change of a node keeps it
+abbrev pub Changes : (Node → Type 0) → (Node → Node) → Type 0
+Changes good f = (node : Node) → good node → good (f node)
+
+-- all that is written into a node at a time keeps it, and new nodes have it
+pub record Keeps (now : ℕ) (good : Node → Type 0) : Type 0 where
+  pub edits : (e : Edit) → Fits e → Changes good (edited now e)
+  pub makes : (new : NewNode) → Begins new → good (built now new)
+  pub locks : Changes good (λ node. record node { locked = true })
+  pub copies : (next : ℕ) (order : List ℕ) → Changes good (copied_node next order now)
+
+-- ---- lists of nodes
+
+found_if : (good : Node → Type 0) (test : Bool) (value node : Node) (found : Option Node) → good value → (found ≡ Some node → good node) → cond test (Some value) found ≡ Some node → good node
+found_if good true value node found sound rest is =
+    let same : value ≡ node = cc is in
+    subst good same sound
+found_if good false value node found sound rest is = rest is
+
+pub each-found : (good : Node → Type 0) (test : ℕ → Bool) (es : List (ℕ × Node)) (node : Node) → Each good es → lookup test es ≡ Some node → good node
+each-found good test [] node each is = absurd (cc is)
+each-found good test (e ∷ es) node each is = found_if good (test e.0) e.1 node (lookup test es) each.0 (each-found good test es node each.1) is
+
+each-cond : (good : Node → Type 0) (test : Bool) (a b : List (ℕ × Node)) → Each good a → Each good b → Each good (cond test a b)
+each-cond good true a b first second = first
+each-cond good false a b first second = second
+
+each-set : (good : Node → Type 0) (test : ℕ → Bool) (es : List (ℕ × Node)) (w : Node) → Each good es → good w → Each good (set_value test es w)
+each-set good test [] w each sound = each
+each-set good test (e ∷ es) w each sound = each-cond good (test e.0) ((e.0, w) ∷ es) (e ∷ set_value test es w) (sound, each.1) (each.0, each-set good test es w each.1 sound)
+
+each-remove : (good : Node → Type 0) (test : ℕ → Bool) (es : List (ℕ × Node)) → Each good es → Each good (remove_entry test es)
+each-remove good test [] each = each
+each-remove good test (e ∷ es) each = each-cond good (test e.0) es (e ∷ remove_entry test es) each.1 (each.0, each-remove good test es each.1)
+
+pub each-filter : (good : Node → Type 0) (test : ℕ × Node → Bool) (es : List (ℕ × Node)) → Each good es → Each good (filter test es)
+each-filter good test [] each = each
+each-filter good test (e ∷ es) each = each-cond good (test e) (e ∷ filter test es) (filter test es) (each.0, each-filter good test es each.1) (each-filter good test es each.1)
+
+each-match : (good : Node → Type 0) (order : Ordering) (a b c : List (ℕ × Node)) → Each good a → Each good b → Each good c → Each good (match_ordering order a b c)
+each-match good Less a b c first second third = first
+each-match good Equal a b c first second third = second
+each-match good Greater a b c first second third = third
+
+each-insert : (good : Node → Type 0) (es : List (ℕ × Node)) (next : ℕ) (node : Node) → Each good es → good node → Each good (insert_entry nat_cmp es next node)
+each-insert good [] next node each sound = (sound, _)
+each-insert good (e ∷ es) next node each sound =
+    each-match good (nat_cmp next e.0) ((next, node) ∷ e ∷ es) ((e.0, node) ∷ es) (e ∷ insert_entry nat_cmp es next node) (sound, each) (sound, each.1)
+    (each.0, each-insert good es next node each.1 sound)
+
+each-append : (good : Node → Type 0) (es others : List (ℕ × Node)) → Each good es → Each good others → Each good (es ++ others)
+each-append good [] others first second = second
+each-append good (e ∷ es) others first second = (first.0, each-append good es others first.1 second)
+
+each-option : (good : Node → Type 0) (x : Option (ℕ × Node)) (others : List (ℕ × Node)) → ((e : ℕ × Node) → x ≡ Some e → good e.1) → Each good others → Each good (cons_option x others)
+each-option good None others sound each = each
+each-option good (Some e) others sound each = (sound e refl, each)
+
+each-left : (good : Node → Type 0) (keep : ℕ × Node → Option (ℕ × Node)) → ((e x : ℕ × Node) → good e.1 → keep e ≡ Some x → good x.1) → (es : List (ℕ × Node)) → Each good es
+    → Each good (filter_map keep es)
+each-left good keep keeps [] each = each
+each-left good keep keeps (e ∷ es) each = each-option good (keep e) (filter_map keep es) (λ x is. keeps e x each.0 is) (each-left good keep keeps es each.1)
+
+left_sound : (good : Node → Type 0) (now : ℕ) → Keeps now good → (among stays : Bool) (e x : ℕ × Node) → good e.1 → cond among (cond stays (Some (e.0, stamped now e.1)) None) (Some e) ≡ Some x → good x.1
+left_sound good now keeps true true e x sound is =
+    let same : (e.0, stamped now e.1) ≡ x = cc is in
+    subst (λ (p : ℕ × Node). good p.1) same (keeps.edits Stamp _ e.1 sound)
+left_sound good now keeps true false e x sound is = absurd (cc is)
+left_sound good now keeps false stays e x sound is =
+    let same : e ≡ x = cc is in
+    subst (λ (p : ℕ × Node). good p.1) same sound
+
+lock_sound : (good : Node → Type 0) (now : ℕ) → Keeps now good → (among : Bool) (e : ℕ × Node) → good e.1 → good (cond among (e.0, record e.1 { locked = true }) e).1
+lock_sound good now keeps true e sound = keeps.locks e.1 sound
+lock_sound good now keeps false e sound = sound
+
+each-lock : (good : Node → Type 0) (now : ℕ) → Keeps now good → (below : List ℕ) (es : List (ℕ × Node)) → Each good es → Each good (map (λ e. cond (is_among below e.0) (e.0, record e.1 { locked = true }) e) es)
+each-lock good now keeps below [] each = each
+each-lock good now keeps below (e ∷ es) each = (lock_sound good now keeps (is_among below e.0) e each.0, each-lock good now keeps below es each.1)
+
+copy_if : (good : Node → Type 0) (now : ℕ) → Keeps now good → (t : Tree) (order : List ℕ) (inode : ℕ) (inodes : List ℕ) (x : Option Node) → ((node : Node) → x ≡ Some node → good node)
+    → Each good (copies t order now inodes)
+    → Each good (elim x as (λ _. List (ℕ × Node)) [ Some node ↦ (copy_number t.next_inode order inode, copied_node t.next_inode order now node) ∷ copies t order now inodes | None ↦ copies t order now inodes ])
+copy_if good now keeps t order inode inodes None sound rest = rest
+copy_if good now keeps t order inode inodes (Some node) sound rest = (keeps.copies t.next_inode order node (sound node refl), rest)
+
+each-copies : (good : Node → Type 0) (now : ℕ) → Keeps now good → (t : Tree) (order : List ℕ) (inodes : List ℕ) → Each good t.nodes → Each good (copies t order now inodes)
+each-copies good now keeps t order [] each = _
+each-copies good now keeps t order (inode ∷ inodes) each =
+    copy_if good now keeps t order inode inodes (node_at t inode) (λ node is. each-found good (is_at (nat_cmp inode)) t.nodes node each is) (each-copies good now keeps t order inodes each)
+
+-- ---- changes of a tree
+
+changed : (good : Node → Type 0) (f : Node → Node) → Changes good f → (x : Option Node) (inode : ℕ) (t : Tree) → ((node : Node) → x ≡ Some node → good node) → Each good t.nodes
+    → Each good (changed_by f x inode t).nodes
+changed good f keeps None inode t sound each = each
+changed good f keeps (Some node) inode t sound each = each-set good (is_at (nat_cmp inode)) t.nodes (f node) each (keeps node (sound node refl))
+
+pub each-change_node : (good : Node → Type 0) (f : Node → Node) → Changes good f → (inode : ℕ) (t : Tree) → Each good t.nodes → Each good (change_node inode f t).nodes
+each-change_node good f keeps inode t each = changed good f keeps (node_at t inode) inode t (λ node is. each-found good (is_at (nat_cmp inode)) t.nodes node each is) each
+
+settled_if : (good : Node → Type 0) (test : Bool) (a b : Tree) → Each good a.nodes → Each good b.nodes → Each good (cond test a b).nodes
+settled_if good true a b first second = first
+settled_if good false a b first second = second
+
+pub each-settled : (good : Node → Type 0) (inode : ℕ) (t : Tree) → Each good t.nodes → Each good (settled inode t).nodes
+each-settled good inode t each = settled_if good (lives t inode) t (without_node inode t) each (each-remove good (is_at (nat_cmp inode)) t.nodes each)
+
+each_walk : (good : Node → Type 0) (now : ℕ) → Keeps now good → (before : Tree) → Walk before now (λ a b. Each good a.nodes → Each good b.nodes)
+each_walk good now keeps before = record {
+  same = λ t each. each;
+  joined = λ a b c first second each. second (first each);
+  edits = λ e x t fits allowed each. each-change_node good (edited now e) (keeps.edits e fits) x t each;
+  removes = λ x t each. each-remove good (is_at (nat_cmp x)) t.nodes each;
+  makes = λ new t begins fits each. each-insert good t.nodes t.next_inode (built now new) each (keeps.makes new begins);
+  opens = λ handle t fits each. each;
+  closes = λ number t each. each;
+  copies = λ source t fits each.
+      let order : List ℕ = at_and_below t source in
+      each-append good t.nodes (copies t order now order) each (each-copies good now keeps t order order each);
+  locks = λ x t each. each-lock good now keeps (at_and_below t x) t.nodes each;
+  uproots = λ below t each.
+      let without : Tree = without_directories below t in
+      each-left good (left_over without below now) (λ e x sound is. left_sound good now keeps (is_among below e.0) (lives without e.0 && not (is_directory e.1.content)) e x sound is) t.nodes each;
+  leaves = λ pass t each. each-filter good (λ (e : ℕ × Node). lives (record t { handles = filter (λ h. not (h.1.pass == pass)) t.handles }) e.0) t.nodes each;
+}
+
+pub each-tree_after : (good : Node → Type 0) (now : ℕ) → Keeps now good → (t : Tree) (pass : ℕ) (op : Op) → Each good t.nodes → Each good (tree_after t pass op now).nodes
+each-tree_after good now keeps t pass op each = walk-tree_after t pass now (λ a b. Each good a.nodes → Each good b.nodes) (each_walk good now keeps t) op each
