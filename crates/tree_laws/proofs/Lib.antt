@@ -8,10 +8,8 @@ pub mod Copying
 pub mod CopyShape
 pub mod Counted
 pub mod Gaining
-pub mod Holding
 pub mod Lasting
-pub mod Locked
-pub mod Locking
+pub mod Lock
 pub mod Lookups
 pub mod Losing
 pub mod Moved
@@ -29,7 +27,6 @@ pub mod Sides
 pub mod Sounding
 pub mod Spelling
 pub mod Standing
-pub mod Staying
 pub mod Still
 pub mod SubtreeShape
 pub mod TreeShape

@@ -52,8 +52,8 @@ new_has_no_entry now (File mode uid gid) m = refl
 new_has_no_entry now (Folder mode uid gid) m = refl
 new_has_no_entry now (Symlink target uid gid) m = refl
 
-grown_effects : (t : Tree) (pass now : ℕ) → Sound t → Effects t pass now (λ after. Grown NoneGoes (shape_of after))
-grown_effects t pass now sound = record {
+grown_effects : (t : Tree) (pass now : ℕ) (op : Op) → Sound t → Effects t pass now op (λ after. Grown NoneGoes (shape_of after))
+grown_effects t pass now op sound = record {
   same = sound.grown;
   edits = λ e x fits allowed spares. grown_same NoneGoes (shape_of t) (shape_of (change_node x (edited now e) t)) (edit_shape now e spares x t) sound.grown;
   makes = λ p n new begins can. new_node t p n (built now new) now sound (new_has_no_entry now new) (folder_is (node_at t p) can.there can.folder) (free_is (node_at t p) n can.free);
@@ -69,7 +69,7 @@ grown_effects t pass now sound = record {
   copies = λ source p n can.
       copied t source p n now sound (folder_is (node_at t source) can.source_there can.source_folder) (folder_is (node_at t p) can.there can.folder) (free_is (node_at t p) n can.free);
   locks = λ x. grown_same NoneGoes (shape_of t) (shape_of (with_lock x t)) (lock_shape x t) sound.grown;
-  uproots = λ p n can. uprooted t p n now sound (entry_at t p n) refl can.drop.kept can.drop.entry can.child_folder;
+  uproots = λ p n is can. uprooted t p n now sound (entry_at t p n) refl can.drop.kept can.drop.entry can.child_folder;
   leaves = swept (shape_of t) (shape_of (without_pass pass t)) (lives (record t { handles = filter (λ h. not (h.1.pass == pass)) t.handles })) (leave_shape pass t sound.ordered sound.names) sound.grown;
 }
 
@@ -78,7 +78,7 @@ Sound-tree_after t pass now op sound = record {
   ordered = InOrder-tree_after t pass now op sound.ordered;
   names = NamesInOrder-tree_after t pass now op sound.names;
   below = below-change t pass (tree_after t pass op now) (change_after t pass now op) sound.below;
-  grown = effects-tree_after t pass now (λ after. Grown NoneGoes (shape_of after)) (grown_effects t pass now sound) op;
+  grown = effects-tree_after t pass now op (λ after. Grown NoneGoes (shape_of after)) (grown_effects t pass now op sound);
 }
 
 pub sound_after : (t : Tree) (calls : List Request) → Sound t → Sound (tree_after_all t calls)

@@ -68,7 +68,7 @@ file_content (Directory entries) is kind = absurd (cc is)
 file_content (Regular bytes) is kind = absurd (cc kind)
 file_content (Link target) is kind = absurd (cc kind)
 
-no_folder_is : (errno : ℕ) (found : Option Node) → no_directory_check errno found ≡ None → kind_in found ≡ Some kinds.Directory → ⊥
+pub no_folder_is : (errno : ℕ) (found : Option Node) → no_directory_check errno found ≡ None → kind_in found ≡ Some kinds.Directory → ⊥
 no_folder_is errno None is folder = absurd (cc folder)
 no_folder_is errno (Some node) is folder =
     let same : kind_of node.content ≡ kinds.Directory = cc folder in

@@ -75,7 +75,7 @@ uprooted below now t ordered =
 
 -- ---- the operations
 
-order_walk : (before : Tree) (now : ℕ) → Walk before now (λ a b. InOrder a → InOrder b)
+pub order_walk : (before : Tree) (now : ℕ) → Walk before now (λ a b. InOrder a → InOrder b)
 order_walk before now = record {
   same = λ t ordered. ordered;
   joined = λ a b c first second ordered. second (first ordered);

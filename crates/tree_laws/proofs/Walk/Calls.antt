@@ -19,11 +19,11 @@ pub after_call : (P : Tree → Type 0) (t : Tree) (pass now : ℕ) (op : Op) →
 after_call P t pass now op before after = call_if P t pass now op (first_failure (checks t pass op)) refl before after
 
 -- what holds of a tree, and after each of the larger changes, holds after a call
-pub effects-tree_after : (t : Tree) (pass now : ℕ) (P : Tree → Type 0) → Effects t pass now P → (op : Op) → P (tree_after t pass op now)
-effects-tree_after t pass now P effects op = after_call P t pass now op effects.same (λ passes. effects-effect t pass now P effects op passes)
+pub effects-tree_after : (t : Tree) (pass now : ℕ) (op : Op) (P : Tree → Type 0) → Effects t pass now op P → P (tree_after t pass op now)
+effects-tree_after t pass now op P effects = after_call P t pass now op effects.same (λ passes. effects-effect t pass now op P effects passes)
 
 pub walk-tree_after : (t : Tree) (pass now : ℕ) (R : Tree → Tree → Type 0) → Walk t now R → (op : Op) → R t (tree_after t pass op now)
-walk-tree_after t pass now R walk op = effects-tree_after t pass now (R t) (effects_by_walk t pass now R walk) op
+walk-tree_after t pass now R walk op = effects-tree_after t pass now op (R t) (effects_by_walk t pass now op R walk)
 
 pub walk-tree_after_all : (R : Tree → Tree → Type 0) → ((t : Tree) (now : ℕ) → Walk t now R) → (t : Tree) (calls : List Request) → R t (tree_after_all t calls)
 walk-tree_after_all R walk t [] = (walk t 0).same t

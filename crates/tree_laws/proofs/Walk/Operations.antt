@@ -16,8 +16,9 @@ use Rattle.tree_laws.proofs.Walk.Passed.{CanMake, CanUnlink, CanUnmake, CanUproo
 
 -- ---- by the larger changes
 
--- the tree after an operation of a pass at a time, whose checks all pass in the tree, is such: one field for each way to change it
-pub record Effects (t : Tree) (pass now : ℕ) (P : Tree → Type 0) : Type 0 where
+-- the tree after an operation of a pass at a time, whose checks all pass in the tree, is such: one field for each way to change
+-- it; a removal of a subtree tells which operation it is
+pub record Effects (t : Tree) (pass now : ℕ) (op : Op) (P : Tree → Type 0) : Type 0 where
   pub same : P t
   pub edits : (e : Edit) (x : ℕ) → Fits e → IsAllowed t x e → SparesEntries e → P (change_node x (edited now e) t)
   pub makes : (p : ℕ) (n : List ℕ) (new : NewNode) → Begins new → CanMake t p n → P (with_new_node p n (built now new) now t)
@@ -30,62 +31,62 @@ pub record Effects (t : Tree) (pass now : ℕ) (P : Tree → Type 0) : Type 0 wh
   pub closes : (number : ℕ) → open_check (open_file t pass number) ≡ None → P (settled (inode_of (handle_of t pass number)) (without_handle number t))
   pub copies : (source p : ℕ) (n : List ℕ) → CanCopy t source p n → P (with_copy source p n now t)
   pub locks : (x : ℕ) → P (with_lock x t)
-  pub uproots : (p : ℕ) (n : List ℕ) → CanUproot t p n → P (without_tree p n now (entry_at t p n) t)
+  pub uproots : (p : ℕ) (n : List ℕ) → op ≡ ops.RemoveTree p n → CanUproot t p n → P (without_tree p n now (entry_at t p n) t)
   pub leaves : P (without_pass pass t)
 
 cond-cases : (P : Tree → Type 0) (test : Bool) (a b : Tree) → (test ≡ true → P a) → (test ≡ false → P b) → P (cond test a b)
 cond-cases P true a b first second = first refl
 cond-cases P false a b first second = second refl
 
-pub effects-effect : (t : Tree) (pass now : ℕ) (P : Tree → Type 0) → Effects t pass now P → (op : Op) → first_failure (checks t pass op) ≡ None → P (effect t pass op now)
-effects-effect t pass now P effects (ops.Chmod x mode) passes =
+pub effects-effect : (t : Tree) (pass now : ℕ) (op : Op) (P : Tree → Type 0) → Effects t pass now op P → first_failure (checks t pass op) ≡ None → P (effect t pass op now)
+effects-effect t pass now (ops.Chmod x mode) P effects passes =
     let all = all_pass (checks t pass (ops.Chmod x mode)) passes in
     effects.edits (Mode mode) x (mode_fits mode all.0) all.1.1.0 _
-effects-effect t pass now P effects (ops.Chown x uid gid) passes =
+effects-effect t pass now (ops.Chown x uid gid) P effects passes =
     let all = all_pass (checks t pass (ops.Chown x uid gid)) passes in
     effects.edits (Owner uid gid) x _ all.1.0 _
-effects-effect t pass now P effects (ops.Utimes x mtime) passes =
+effects-effect t pass now (ops.Utimes x mtime) P effects passes =
     let all = all_pass (checks t pass (ops.Utimes x mtime)) passes in
     effects.edits (Mtime mtime) x (time_fits mtime all.0) all.1.1.0 _
-effects-effect t pass now P effects (ops.Truncate x size) passes =
+effects-effect t pass now (ops.Truncate x size) P effects passes =
     let all = all_pass (checks t pass (ops.Truncate x size)) passes in
     effects.edits (Resize size) x (size_fits size all.1.1.1.0) all.1.1.0 _
-effects-effect t pass now P effects (ops.Mkdir p n mode uid gid) passes =
+effects-effect t pass now (ops.Mkdir p n mode uid gid) P effects passes =
     let can = can_mkdir t pass p n mode uid gid passes in
     effects.makes p n (Folder mode uid gid) can.0 can.1
-effects-effect t pass now P effects (ops.Create p n mode uid gid) passes =
+effects-effect t pass now (ops.Create p n mode uid gid) P effects passes =
     let can = can_create t pass p n mode uid gid passes in
     effects.creates p n mode uid gid can.0 can.1 can.2
-effects-effect t pass now P effects (ops.Unlink p n) passes = effects.unlinks p n (can_unlink t pass p n passes)
-effects-effect t pass now P effects (ops.Rmdir p n) passes = effects.unmakes p n (can_unmake t pass p n passes)
-effects-effect t pass now P effects (ops.Rename p n np nn) passes =
+effects-effect t pass now (ops.Unlink p n) P effects passes = effects.unlinks p n (can_unlink t pass p n passes)
+effects-effect t pass now (ops.Rmdir p n) P effects passes = effects.unmakes p n (can_unmake t pass p n passes)
+effects-effect t pass now (ops.Rename p n np nn) P effects passes =
     cond-cases P (is_same (entry_at t np nn) (entry_at t p n)) t (moved_entry p n np nn now (entry_at t p n) t) (λ same. effects.same)
     (λ differs. effects.moves p n np nn (can_move t pass p n np nn passes differs))
-effects-effect t pass now P effects (ops.Link x p n) passes = effects.links x p n (can_link t pass x p n passes)
-effects-effect t pass now P effects (ops.Symlink p n target uid gid) passes =
+effects-effect t pass now (ops.Link x p n) P effects passes = effects.links x p n (can_link t pass x p n passes)
+effects-effect t pass now (ops.Symlink p n target uid gid) P effects passes =
     let can = can_symlink t pass p n target uid gid passes in
     effects.makes p n (Symlink target uid gid) can.0 can.1
-effects-effect t pass now P effects (ops.Open x) passes =
+effects-effect t pass now (ops.Open x) P effects passes =
     let all = all_pass (checks t pass (ops.Open x)) passes in
     effects.opens x all.0 all.1.0 (hand_fits t all.1.1.0)
-effects-effect t pass now P effects (ops.Release number) passes =
+effects-effect t pass now (ops.Release number) P effects passes =
     let all = all_pass (checks t pass (ops.Release number)) passes in
     effects.closes number all.0
-effects-effect t pass now P effects (ops.Write number offset bytes) passes =
+effects-effect t pass now (ops.Write number offset bytes) P effects passes =
     let all = all_pass (checks t pass (ops.Write number offset bytes)) passes in
     cond-cases P (length bytes == 0) t _ (λ none. effects.same)
     (λ some. effects.edits (Write offset bytes) (inode_of (handle_of t pass number)) (end_fits offset bytes some all.1.1.0) all.1.0 _)
-effects-effect t pass now P effects (ops.Setxattr x name flag value) passes =
+effects-effect t pass now (ops.Setxattr x name flag value) P effects passes =
     let all = all_pass (checks t pass (ops.Setxattr x name flag value)) passes in
     effects.edits (Attribute name value) x (all.0, all.1.0) all.1.1.1.0 _
-effects-effect t pass now P effects (ops.Removexattr x name) passes =
+effects-effect t pass now (ops.Removexattr x name) P effects passes =
     let all = all_pass (checks t pass (ops.Removexattr x name)) passes in
     effects.edits (NoAttribute name) x _ all.1.1.0 _
-effects-effect t pass now P effects (ops.CopyTree source p n) passes = effects.copies source p n (can_copy t pass source p n passes)
-effects-effect t pass now P effects (ops.LockTree x) passes = effects.locks x
-effects-effect t pass now P effects (ops.RemoveTree p n) passes = effects.uproots p n (can_uproot t pass p n passes)
-effects-effect t pass now P effects ops.Leave passes = effects.leaves
-effects-effect t pass now P effects op passes = effects.same
+effects-effect t pass now (ops.CopyTree source p n) P effects passes = effects.copies source p n (can_copy t pass source p n passes)
+effects-effect t pass now (ops.LockTree x) P effects passes = effects.locks x
+effects-effect t pass now (ops.RemoveTree p n) P effects passes = effects.uproots p n refl (can_uproot t pass p n passes)
+effects-effect t pass now ops.Leave P effects passes = effects.leaves
+effects-effect t pass now op P effects passes = effects.same
 
 -- ---- by primitive changes
 
@@ -134,8 +135,8 @@ walk-without_tree t now R walk p n can (Some x) =
     walk.joined t unlinked (without_tree p n now (Some x) t) (walk.edits (NoEntry n) p t _ can.drop.unlocked) (walk.uproots (at_and_below t x) unlinked)
 
 -- what relates the trees of each primitive change relates those of each operation
-pub effects_by_walk : (t : Tree) (pass now : ℕ) (R : Tree → Tree → Type 0) → Walk t now R → Effects t pass now (R t)
-effects_by_walk t pass now R walk = record {
+pub effects_by_walk : (t : Tree) (pass now : ℕ) (op : Op) (R : Tree → Tree → Type 0) → Walk t now R → Effects t pass now op (R t)
+effects_by_walk t pass now op R walk = record {
   same = walk.same t;
   edits = λ e x fits allowed spares. walk.edits e x t fits allowed;
   makes = λ p n new begins can.
@@ -168,6 +169,6 @@ effects_by_walk t pass now R walk = record {
       let more : Tree = record t { next_inode = t.next_inode + length order; nodes = t.nodes ++ copies t order now order } in
       walk.joined t more (with_copy source p n now t) (walk.copies source t can.ids) (walk.edits (Entry n t.next_inode) p more can.legal can.unlocked);
   locks = λ x. walk.locks x t;
-  uproots = λ p n can. walk-without_tree t now R walk p n can (entry_at t p n);
+  uproots = λ p n is can. walk-without_tree t now R walk p n can (entry_at t p n);
   leaves = walk.leaves pass t;
 }

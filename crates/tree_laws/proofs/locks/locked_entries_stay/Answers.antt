@@ -1,4 +1,4 @@
-use Rattle.tree_laws.proofs.Locking.{entries_stay}
+use Rattle.tree_laws.proofs.Lock.Tree.{entries_stay}
 use Rattle.tree_laws.proofs.locks.locked_entries_stay.Goals as goal
 
 pub returns : goal.returns

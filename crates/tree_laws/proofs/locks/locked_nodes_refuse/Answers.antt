@@ -1,4 +1,4 @@
-use Rattle.tree_laws.proofs.Locked.{refused_call}
+use Rattle.tree_laws.proofs.Lock.Refusal.{refused_call}
 use Rattle.tree_laws.proofs.locks.locked_nodes_refuse.Goals as goal
 
 pub returns : goal.returns

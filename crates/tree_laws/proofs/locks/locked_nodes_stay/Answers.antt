@@ -1,4 +1,4 @@
-use Rattle.tree_laws.proofs.Staying.{kept_after}
+use Rattle.tree_laws.proofs.Lock.Node.{kept_after}
 use Rattle.tree_laws.proofs.locks.locked_nodes_stay.Goals as goal
 
 pub returns : goal.returns

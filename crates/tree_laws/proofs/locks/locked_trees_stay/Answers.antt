@@ -1,4 +1,4 @@
-use Rattle.tree_laws.proofs.Locking.{trees_stay}
+use Rattle.tree_laws.proofs.Lock.Tree.{trees_stay}
 use Rattle.tree_laws.proofs.locks.locked_trees_stay.Goals as goal
 
 pub returns : goal.returns

@@ -22,15 +22,14 @@ use Rattle.tree_laws.specs.LockedTrees.{Spares, AllSpare, SparesTree, AllSpareTr
 use Rattle.tree_laws.proofs.CopyShape.{kind_some, entry_some}
 use Rattle.tree_laws.proofs.Gaining.{inside}
 use Rattle.tree_laws.proofs.Bools.{differ, is_false}
-use Rattle.tree_laws.proofs.Locked.{first_of, refused}
-use Rattle.tree_laws.proofs.Holding.{one_stays, all_stay}
-use Rattle.tree_laws.proofs.Losing.{none_some}
+use Rattle.tree_laws.proofs.Lock.Refusal.{locked_fails}
+use Rattle.tree_laws.proofs.Lock.Entry.{one_stays, all_stay}
 use Rattle.s3_base.specs.declared.node_kind.Kind.{Kind}
 use Rattle.tree_laws.proofs.WellFormed.{reached_sound}
 use Rattle.tree_laws.proofs.Nodes.{same_number}
-use Rattle.tree_laws.proofs.Walk.Passed.{all_pass, not_failed}
+use Rattle.tree_laws.proofs.Walk.Passed.{all_pass, not_failed, can_uproot}
 use Rattle.tree_laws.proofs.Shape.{Leads, NoneGoes, one_entry}
-use Rattle.tree_laws.proofs.Sounding.{sound_after}
+use Rattle.tree_laws.proofs.Sounding.{Sound-tree_after}
 use Rattle.tree_laws.proofs.Standing.{Sound, folder_is}
 use Rattle.tree_laws.proofs.SubtreeShape.{lock_shape}
 use Rattle.tree_laws.proofs.TreeShape.{kind_in, entry_in, shape_of}
@@ -99,8 +98,7 @@ refused_there : (t : Tree) (top q : ℕ) (m : List ℕ) (later : Tree) → Kept 
 refused_there t top q m later keeps pass from by passes p x n within names same =
     let node = entry_some n x (node_at t p) names in
     let kept = keeps.nodes p node.0 within node.1 in
-    let fails = first_of (checks later pass (ops.RemoveTree from by)) (refused later pass p (stamped kept.0 (record node.0 { locked = true })) kept.1 refl (ops.RemoveTree from by) same) in
-    none_some (first_failure (checks later pass (ops.RemoveTree from by))) fails.0 passes fails.1
+    locked_fails (node_at later from) (stamped kept.0 (record node.0 { locked = true })) (ap (node_at later) same ∙ kept.1) refl (can_uproot later pass from by passes).drop.unlocked
 
 -- no directory inside is at or below one that is removed
 apart_from : (t : Tree) (top q : ℕ) (m : List ℕ) (later : Tree) → Sound t → Kept t top q m later → (pass from : ℕ) (by : List ℕ) → first_failure (checks later pass (ops.RemoveTree from by)) ≡ None → (r : ℕ)
@@ -169,7 +167,7 @@ kept_on t top q m later sound folder keeps pass now op spares =
     record { names = one.names; time = one.time; is = one.is } in
     let top_node = kind_some (node_at t top) kinds.Directory folder in
     record {
-      sound = sound_after later (record { pass = pass; now = now; op = op } ∷ []) keeps.sound;
+      sound = Sound-tree_after later pass now op keeps.sound;
       nodes = λ x node within is.
           elim ((below_shape t sound.names top).up x within) [
             | inl same ↦
@@ -216,7 +214,7 @@ locked_by t sound more pass now top done spare =
     λ q m names.
     kept_all t top q m next more sound folder
     (record {
-      sound = sound_after t (record { pass = pass; now = now; op = op } ∷ []) sound;
+      sound = Sound-tree_after t pass now op sound;
       nodes = λ x node within is. (node.ctime, ap (λ (a : Tree). node_at a x) next_is ∙ locked_found (at_and_below t top) x t.nodes node within is);
       name = ap (λ (a : Tree). entry_at a q m) next_is ∙ (lock_shape top t).entry q m ∙ names;
     })
