@@ -2,4 +2,5 @@
 pub mod Entry
 pub mod Node
 pub mod Refusal
+pub mod Still
 pub mod Tree

@@ -7,7 +7,7 @@ use Rattle.std.proofs.lemmas.List.{replicate-append-replicate, take-append-le, t
 use Rattle.plain_tree.specs.Tree as tree
 use Rattle.plain_tree.specs.Tree.{Node, Tree, node_at, changed_by, change_node, touched, with_node}
 use Rattle.plain_tree.specs.Files.{padded, written_at, resized, bytes_of, file_at, with_bytes}
-use Rattle.tree_laws.proofs.Nodes.{found_itself, changes_one}
+use Rattle.tree_laws.proofs.Node.Reading.{found_itself, changes_one}
 use Rattle.volume_core.specs.Files.{Files, bytes_at, IsChanged, AreSame, HasBytes}
 
 -- ---- in memory

@@ -24,7 +24,7 @@ use Rattle.s3_rows.specs.Selections.{inode_at}
 use Rattle.s3_rows.specs.Validity.{IsValid}
 use Rattle.tree_rows.specs.Shapes.{Represents}
 use Rattle.op_checks.proofs.Nodes.{node_absent}
-use Rattle.tree_laws.proofs.Lookups.{numbers_tell, inserted_here, inserted_there}
+use Rattle.tree_laws.proofs.Name.Reading.{numbers_tell, inserted_here, inserted_there}
 use Rattle.inode_ops.proofs.Opened.{stays_released, released_is, stays_left, left_is}
 use Rattle.ref_counts.specs.Handles.{OpenHandles, HasHandles, opened, closed, closed_all}
 use Rattle.ref_counts.specs.Plans.{AreNamed}

@@ -20,22 +20,22 @@ use Rattle.plain_tree.specs.Tree.{Node, Tree, root, node_at, handle_of, change_n
 use Rattle.plain_tree.proofs.Replies.{reply_at}
 use Rattle.tree_laws.specs.LockedTrees.{Spares, AllSpare, IsAsBefore}
 use Rattle.tree_laws.specs.Locks.{IsKept}
-use Rattle.tree_laws.proofs.CopyShape.{none_at, copy_shape}
+use Rattle.tree_laws.proofs.Shape.Copy.{none_at, copy_shape}
 use Rattle.tree_laws.proofs.Lock.Node.{kept_after}
 use Rattle.tree_laws.proofs.Lock.Refusal.{locked_fails}
-use Rattle.tree_laws.proofs.Losing.{Unlinks, Sweeps, none_some}
+use Rattle.tree_laws.proofs.Shape.Loss.{Unlinks, Sweeps, none_some}
 use Rattle.tree_laws.proofs.Name.Order.{NamesInOrder-drop_entry}
 use Rattle.tree_laws.proofs.Node.Order.{InOrder-change_node}
-use Rattle.tree_laws.proofs.Shape.{IsUnnamed, IsPlace, not_there}
-use Rattle.tree_laws.proofs.Sounding.{edit_shape, Sound-tree_after}
-use Rattle.tree_laws.proofs.Standing.{Sound, folder_is, free_is, no_folder_is, empty_is}
-use Rattle.tree_laws.proofs.SubtreeShape.{lock_shape, leave_shape, uproot_shape}
-use Rattle.tree_laws.proofs.TreeShape.{kind_in, entry_in, shape_of, drop_shape, Links, add_shape, node_kept, remove_shape, dead_is}
+use Rattle.tree_laws.proofs.Shape.Words.{IsUnnamed, IsPlace, not_there}
+use Rattle.tree_laws.proofs.Shape.Operations.{edit_shape, Sound-tree_after}
+use Rattle.tree_laws.proofs.Shape.Steps.{Sound, folder_is, free_is, no_folder_is, empty_is}
+use Rattle.tree_laws.proofs.Shape.Subtree.{lock_shape, leave_shape, uproot_shape}
+use Rattle.tree_laws.proofs.Shape.Tree.{kind_in, entry_in, shape_of, drop_shape, Links, add_shape, node_kept, remove_shape, dead_is}
 use Rattle.tree_laws.proofs.Walk.Calls.{after_call}
 use Rattle.tree_laws.proofs.Walk.Edits.{Stamp, built}
 use Rattle.tree_laws.proofs.Walk.Operations.{Effects, effects-effect}
 use Rattle.tree_laws.proofs.Walk.Passed.{CanMove, CanUnlink, CanUnmake}
-use Rattle.tree_laws.proofs.Walked.{below_shape}
+use Rattle.tree_laws.proofs.Shape.Below.{below_shape}
 
 -- an entry that names a locked node
 pub record Held (t : Tree) (p x : ℕ) (n : List ℕ) (node : Node) : Type 0 where

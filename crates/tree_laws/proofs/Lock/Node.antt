@@ -20,10 +20,10 @@ use Rattle.plain_tree.specs.Tree.{Node, Tree, node_at, change_node, changed_by, 
 use Rattle.tree_laws.specs.Locks.{IsKept}
 use Rattle.tree_laws.proofs.Lock.Refusal.{locked_fails}
 use Rattle.tree_laws.proofs.Node.Order.{order_walk}
-use Rattle.tree_laws.proofs.Nodes.{same_number, found_itself}
-use Rattle.tree_laws.proofs.Still.{Still, still_same, still_equal, still_gone, still_later, still_removed, still_left, absent, present, found_inserted, found_before}
-use Rattle.tree_laws.proofs.TreeShape.{changed_there}
-use Rattle.tree_laws.proofs.Visited.{copies_ascend}
+use Rattle.tree_laws.proofs.Node.Reading.{same_number, found_itself}
+use Rattle.tree_laws.proofs.Lock.Still.{Still, still_same, still_equal, still_gone, still_later, still_removed, still_left, absent, present, found_inserted, found_before}
+use Rattle.tree_laws.proofs.Shape.Tree.{changed_there}
+use Rattle.tree_laws.proofs.Copy.Numbers.{copies_ascend}
 use Rattle.tree_laws.proofs.Walk.Calls.{walk-tree_after, kept-tree_after_all}
 use Rattle.tree_laws.proofs.Walk.Edits.{Edit, Stamp, edited, IsAllowed, built}
 use Rattle.tree_laws.proofs.Walk.Operations.{Walk}

@@ -19,21 +19,21 @@ use Rattle.plain_tree.specs.Subtrees.{with_lock}
 use Rattle.plain_tree.specs.Tree.{Node, Tree, root, made_tree, node_at, stamped}
 use Rattle.plain_tree.proofs.Replies.{reply_at, tree_at}
 use Rattle.tree_laws.specs.LockedTrees.{Spares, AllSpare, SparesTree, AllSpareTree, IsAsBefore, StaysLocked}
-use Rattle.tree_laws.proofs.CopyShape.{kind_some, entry_some}
-use Rattle.tree_laws.proofs.Gaining.{inside}
+use Rattle.tree_laws.proofs.Shape.Copy.{kind_some, entry_some}
+use Rattle.tree_laws.proofs.Shape.Gain.{inside}
 use Rattle.tree_laws.proofs.Bools.{differ, is_false}
 use Rattle.tree_laws.proofs.Lock.Refusal.{locked_fails}
 use Rattle.tree_laws.proofs.Lock.Entry.{one_stays, all_stay}
 use Rattle.s3_base.specs.declared.node_kind.Kind.{Kind}
 use Rattle.tree_laws.proofs.WellFormed.{reached_sound}
-use Rattle.tree_laws.proofs.Nodes.{same_number}
+use Rattle.tree_laws.proofs.Node.Reading.{same_number}
 use Rattle.tree_laws.proofs.Walk.Passed.{all_pass, not_failed, can_uproot}
-use Rattle.tree_laws.proofs.Shape.{Leads, NoneGoes, one_entry}
-use Rattle.tree_laws.proofs.Sounding.{Sound-tree_after}
-use Rattle.tree_laws.proofs.Standing.{Sound, folder_is}
-use Rattle.tree_laws.proofs.SubtreeShape.{lock_shape}
-use Rattle.tree_laws.proofs.TreeShape.{kind_in, entry_in, shape_of}
-use Rattle.tree_laws.proofs.Walked.{below_shape}
+use Rattle.tree_laws.proofs.Shape.Words.{Leads, NoneGoes, one_entry}
+use Rattle.tree_laws.proofs.Shape.Operations.{Sound-tree_after}
+use Rattle.tree_laws.proofs.Shape.Steps.{Sound, folder_is}
+use Rattle.tree_laws.proofs.Shape.Subtree.{lock_shape}
+use Rattle.tree_laws.proofs.Shape.Tree.{kind_in, entry_in, shape_of}
+use Rattle.tree_laws.proofs.Shape.Below.{below_shape}
 
 pub entries_stay : (block_size time : ℕ) (calls more : List Request) (parent inode : ℕ) (name : List ℕ) (node : Node) → node_at (tree_after_all (made_tree block_size time) calls) inode ≡ Some node
     → node.locked ≡ true → entry_at (tree_after_all (made_tree block_size time) calls) parent name ≡ Some inode → AllSpare (tree_after_all (made_tree block_size time) calls) parent name more

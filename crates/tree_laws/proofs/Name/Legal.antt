@@ -16,11 +16,11 @@ use Rattle.plain_tree.specs.Numbers.{Ascend, InOrder}
 use Rattle.plain_tree.specs.Operations.{tree_after}
 use Rattle.plain_tree.specs.Subtrees.{copied_content, copy_number}
 use Rattle.plain_tree.specs.Tree.{Content, Regular, Directory, Link, Node, Tree, node_at, entry_of, named}
-use Rattle.tree_laws.proofs.Counted.{first_node, past_node}
-use Rattle.tree_laws.proofs.Lookups.{past_first}
+use Rattle.tree_laws.proofs.Shape.Count.{first_node, past_node}
+use Rattle.tree_laws.proofs.Name.Reading.{past_first}
 use Rattle.tree_laws.proofs.Node.Each.{Each, Changes, Keeps, each-found, each-tree_after}
-use Rattle.tree_laws.proofs.Spelling.{same_name, own_name}
-use Rattle.tree_laws.proofs.TreeShape.{entry_in}
+use Rattle.tree_laws.proofs.Node.Keys.{same_name, own_name}
+use Rattle.tree_laws.proofs.Shape.Tree.{entry_in}
 use Rattle.tree_laws.proofs.Walk.Edits.{Edit, Resize, Write, Entry, NoEntry, edited, Fits, NewNode, File, Folder, Symlink, built}
 
 abbrev AreLegal : List (List ℕ × ℕ) → Type 0

@@ -16,7 +16,7 @@ use Rattle.plain_tree.specs.Operations.{tree_after, HandlesBelow}
 use Rattle.plain_tree.specs.Subtrees.{copies, with_lock, left_over, without_directories}
 use Rattle.plain_tree.specs.Tree.{Node, Handle, Tree, node_at, change_node, changed_by, without_node, with_node, stamped}
 use Rattle.tree_laws.proofs.Node.Ascend.{joined, below, ascend-left, ascend-remove, ascend-filter, ascend-insert}
-use Rattle.tree_laws.proofs.Visited.{copies_ascend}
+use Rattle.tree_laws.proofs.Copy.Numbers.{copies_ascend}
 use Rattle.tree_laws.proofs.Walk.Calls.{walk-tree_after}
 use Rattle.tree_laws.proofs.Walk.Edits.{edited, built}
 use Rattle.tree_laws.proofs.Walk.Operations.{Walk, walk-settled}

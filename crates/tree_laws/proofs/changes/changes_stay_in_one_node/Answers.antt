@@ -1,5 +1,5 @@
 use Rattle.std.proofs.Common.{refl}
-use Rattle.tree_laws.proofs.Alone.{stays_alone}
+use Rattle.tree_laws.proofs.File.Alone.{stays_alone}
 use Rattle.tree_laws.proofs.changes.changes_stay_in_one_node.Goals as goal
 
 pub returns : goal.returns

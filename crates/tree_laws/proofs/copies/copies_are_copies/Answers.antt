@@ -1,4 +1,4 @@
-use Rattle.tree_laws.proofs.Sides.{reached_copy}
+use Rattle.tree_laws.proofs.Copy.Sides.{reached_copy}
 use Rattle.tree_laws.proofs.copies.copies_are_copies.Goals as goal
 
 pub returns : goal.returns

@@ -1,4 +1,4 @@
-use Rattle.tree_laws.proofs.Copied.{copy_done}
+use Rattle.tree_laws.proofs.Copy.Law.{copy_done}
 use Rattle.tree_laws.proofs.copies.copy_is_a_copy.Goals as goal
 
 pub returns : goal.returns

@@ -1,5 +1,5 @@
-use Rattle.tree_laws.proofs.Copied.{can_be}
-use Rattle.tree_laws.proofs.Sides.{sides_apart}
+use Rattle.tree_laws.proofs.Copy.Law.{can_be}
+use Rattle.tree_laws.proofs.Copy.Sides.{sides_apart}
 use Rattle.tree_laws.proofs.copies.sides_stay_apart.Goals as goal
 
 pub returns : goal.returns

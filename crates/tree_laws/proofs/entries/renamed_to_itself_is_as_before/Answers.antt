@@ -1,4 +1,4 @@
-use Rattle.tree_laws.proofs.Alone.{renamed_to_itself}
+use Rattle.tree_laws.proofs.File.Alone.{renamed_to_itself}
 use Rattle.tree_laws.proofs.entries.renamed_to_itself_is_as_before.Goals as goal
 
 pub returns : goal.returns

@@ -1,5 +1,5 @@
 use Rattle.std.proofs.Common.{refl}
-use Rattle.tree_laws.proofs.Written.{write_done}
+use Rattle.tree_laws.proofs.File.Written.{write_done}
 use Rattle.tree_laws.proofs.files.written_is_read.Goals as goal
 
 pub returns : goal.returns

@@ -4,8 +4,8 @@ use Rattle.std.proofs.lemmas.Bool.{cases_eq}
 use Rattle.s3_base.specs.declared.node_kind.Kind.{Kind}
 use Rattle.s3_base.specs.declared.node_kind.Kind.TheVariants as kinds
 use Rattle.plain_tree.specs.Tree.{root, lost_and_found}
-use Rattle.tree_laws.proofs.Losing.{none_some}
-use Rattle.tree_laws.proofs.Shape.{Shape, Leads, Grown, NoneGoes, IsPlace, cases_place, one_entry, not_there, leads_on}
+use Rattle.tree_laws.proofs.Shape.Loss.{none_some}
+use Rattle.tree_laws.proofs.Shape.Words.{Shape, Leads, Grown, NoneGoes, IsPlace, cases_place, one_entry, not_there, leads_on}
 
 -- ---- a handle that is opened
 

@@ -10,11 +10,11 @@ use Rattle.plain_tree.specs.Subtrees.{place_of, copy_number, copied_node, copies
 use Rattle.plain_tree.specs.Tree.{Node, Tree, node_at}
 use Rattle.plain_tree.specs.Numbers.{InOrder}
 use Rattle.tree_laws.proofs.Bools.{left_true, right_true, either_true}
-use Rattle.tree_laws.proofs.CopyShape.{none_at}
-use Rattle.tree_laws.proofs.Losing.{none_some}
-use Rattle.tree_laws.proofs.Nodes.{other_number, own_number}
-use Rattle.tree_laws.proofs.Still.{absent, found_before}
-use Rattle.tree_laws.proofs.Visited.{copies_ascend}
+use Rattle.tree_laws.proofs.Shape.Copy.{none_at}
+use Rattle.tree_laws.proofs.Shape.Loss.{none_some}
+use Rattle.tree_laws.proofs.Node.Reading.{other_number, own_number}
+use Rattle.tree_laws.proofs.Lock.Still.{absent, found_before}
+use Rattle.tree_laws.proofs.Copy.Numbers.{copies_ascend}
 
 place_less : (here later : Bool) (place size : ℕ) → (here || later) ≡ true → (later ≡ true → place < size) → cond here 0 (place + 1) < suc size
 place_less true later place size among rest = omega arith

@@ -13,15 +13,15 @@ use Rattle.plain_tree.specs.Subtrees.{with_lock, without_pass}
 use Rattle.plain_tree.specs.Tree.{Node, Tree, node_at, entry_of, change_node}
 use Rattle.plain_tree.proofs.Changes.{change_after}
 use Rattle.plain_tree.proofs.Handles.{below-change}
-use Rattle.tree_laws.proofs.Checked.{is_file}
-use Rattle.tree_laws.proofs.Losing.{swept}
+use Rattle.tree_laws.proofs.File.Checked.{is_file}
+use Rattle.tree_laws.proofs.Shape.Loss.{swept}
 use Rattle.tree_laws.proofs.Name.Order.{NamesInOrder-tree_after}
 use Rattle.tree_laws.proofs.Node.Order.{InOrder-tree_after}
-use Rattle.tree_laws.proofs.Renaming.{renamed}
-use Rattle.tree_laws.proofs.Shape.{Grown, NoneGoes, Same, grown_same}
-use Rattle.tree_laws.proofs.Standing.{Sound, folder_is, free_is, kind_bytes, entry_bytes, new_node, new_file_in, linked, opened_one, released, unlinks, unmade, uprooted, copied}
-use Rattle.tree_laws.proofs.SubtreeShape.{lock_shape, leave_shape}
-use Rattle.tree_laws.proofs.TreeShape.{kind_in, shape_of, same_shape}
+use Rattle.tree_laws.proofs.Rename.Shape.{renamed}
+use Rattle.tree_laws.proofs.Shape.Words.{Grown, NoneGoes, Same, grown_same}
+use Rattle.tree_laws.proofs.Shape.Steps.{Sound, folder_is, free_is, kind_bytes, entry_bytes, new_node, new_file_in, linked, opened_one, released, unlinks, unmade, uprooted, copied}
+use Rattle.tree_laws.proofs.Shape.Subtree.{lock_shape, leave_shape}
+use Rattle.tree_laws.proofs.Shape.Tree.{kind_in, shape_of, same_shape}
 use Rattle.tree_laws.proofs.Walk.Calls.{effects-tree_after, kept-tree_after_all}
 use Rattle.tree_laws.proofs.Walk.Edits.{Edit, Resize, Write, Entry, NoEntry, edited, SparesEntries, NewNode, File, Folder, Symlink, built}
 use Rattle.tree_laws.proofs.Walk.Operations.{Effects}

@@ -3,9 +3,9 @@ use Rattle.std.proofs.Common.{◌≡◌, ◌≢◌, ℕ, zero, suc, List, Bool, 
 use Rattle.s3_base.specs.declared.node_kind.Kind.{Kind}
 use Rattle.s3_base.specs.declared.node_kind.Kind.TheVariants as kinds
 use Rattle.plain_tree.specs.Tree.{root, lost_and_found}
-use Rattle.tree_laws.proofs.Gaining.{IsBelow, outside, root_inside, downwards, no_round}
-use Rattle.tree_laws.proofs.Losing.{none_some}
-use Rattle.tree_laws.proofs.Shape.{Shape, Leads, IsUnnamed, Grown, NoneGoes, IsPlace, cases_place, one_entry, not_there, leads_on}
+use Rattle.tree_laws.proofs.Shape.Gain.{IsBelow, outside, root_inside, downwards, no_round}
+use Rattle.tree_laws.proofs.Shape.Loss.{none_some}
+use Rattle.tree_laws.proofs.Shape.Words.{Shape, Leads, IsUnnamed, Grown, NoneGoes, IsPlace, cases_place, one_entry, not_there, leads_on}
 
 -- ---- a subtree that goes
 

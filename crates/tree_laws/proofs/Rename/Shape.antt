@@ -13,15 +13,15 @@ use Rattle.plain_tree.specs.Tree.{Content, Regular, Directory, Link, Node, Tree,
 use Rattle.plain_tree.specs.Names.{NamesInOrder}
 use Rattle.plain_tree.specs.Numbers.{InOrder}
 use Rattle.tree_laws.proofs.Bools.{left_false}
-use Rattle.tree_laws.proofs.Gaining.{IsBelow, Moves, moved}
-use Rattle.tree_laws.proofs.Losing.{Unlinks, none_some, unlinked}
+use Rattle.tree_laws.proofs.Shape.Gain.{IsBelow, Moves, moved}
+use Rattle.tree_laws.proofs.Shape.Loss.{Unlinks, none_some, unlinked}
 use Rattle.tree_laws.proofs.Name.Order as names_by
 use Rattle.tree_laws.proofs.Node.Order as numbers_by
-use Rattle.tree_laws.proofs.Shape.{Grown, NoneGoes, Only, IsPlace, one_entry, not_there, Same}
-use Rattle.tree_laws.proofs.Standing.{Sound, folder_is, empty_is, keep_is, lost}
-use Rattle.tree_laws.proofs.TreeShape.{kind_in, shape_of, same_shape, drop_shape, Links, add_shape}
+use Rattle.tree_laws.proofs.Shape.Words.{Grown, NoneGoes, Only, IsPlace, one_entry, not_there, Same}
+use Rattle.tree_laws.proofs.Shape.Steps.{Sound, folder_is, empty_is, keep_is, lost}
+use Rattle.tree_laws.proofs.Shape.Tree.{kind_in, shape_of, same_shape, drop_shape, Links, add_shape}
 use Rattle.tree_laws.proofs.Walk.Passed.{CanMove}
-use Rattle.tree_laws.proofs.Walked.{below_shape}
+use Rattle.tree_laws.proofs.Shape.Below.{below_shape}
 
 -- what lies at and below the node that moves, and where it goes is not there
 record Branch (t : Tree) (x np : ℕ) : Type 0 where

@@ -18,20 +18,20 @@ use Rattle.plain_tree.specs.Subtrees.{dropped, copy_number, with_copy, without_t
 use Rattle.plain_tree.specs.Tree.{Content, Regular, Directory, Link, Node, Handle, Tree, root, lost_and_found, node_at, entry_of, handle_of, change_node, with_node, with_handle, without_handle, without_node, stamped}
 use Rattle.plain_tree.specs.Names.{NamesInOrder}
 use Rattle.plain_tree.specs.Numbers.{InOrder}
-use Rattle.tree_laws.proofs.Branches as branches
-use Rattle.tree_laws.proofs.Checked as checked
-use Rattle.tree_laws.proofs.CopyShape.{none_at, copy_shape}
-use Rattle.tree_laws.proofs.Gaining as gaining
-use Rattle.tree_laws.proofs.Losing as losing
-use Rattle.tree_laws.proofs.Losing.{none_some}
+use Rattle.tree_laws.proofs.Shape.Branch as branches
+use Rattle.tree_laws.proofs.File.Checked as checked
+use Rattle.tree_laws.proofs.Shape.Copy.{none_at, copy_shape}
+use Rattle.tree_laws.proofs.Shape.Gain as gaining
+use Rattle.tree_laws.proofs.Shape.Loss as losing
+use Rattle.tree_laws.proofs.Shape.Loss.{none_some}
 use Rattle.tree_laws.proofs.Name.Order as names_by
-use Rattle.tree_laws.proofs.Nodes.{node_of_file}
+use Rattle.tree_laws.proofs.Node.Reading.{node_of_file}
 use Rattle.tree_laws.proofs.Node.Order as numbers_by
 use Rattle.tree_laws.proofs.Walk.Passed.{not_failed}
-use Rattle.tree_laws.proofs.Shape.{Shape, Grown, NoneGoes, Only, IsPlace, grown_same}
-use Rattle.tree_laws.proofs.SubtreeShape.{own_is, close_shape, uproot_shape}
-use Rattle.tree_laws.proofs.TreeShape.{kind_in, entry_in, shape_of, same_shape, drop_shape, Links, add_shape, node_made, node_kept, remove_shape, settle_shape, opened_was, opened_stays}
-use Rattle.tree_laws.proofs.Walked.{below_shape}
+use Rattle.tree_laws.proofs.Shape.Words.{Shape, Grown, NoneGoes, Only, IsPlace, grown_same}
+use Rattle.tree_laws.proofs.Shape.Subtree.{own_is, close_shape, uproot_shape}
+use Rattle.tree_laws.proofs.Shape.Tree.{kind_in, entry_in, shape_of, same_shape, drop_shape, Links, add_shape, node_made, node_kept, remove_shape, settle_shape, opened_was, opened_stays}
+use Rattle.tree_laws.proofs.Shape.Below.{below_shape}
 
 pub record Sound (t : Tree) : Type 0 where
   pub ordered : InOrder t

@@ -19,15 +19,15 @@ use Rattle.plain_tree.specs.Names.{NamesInOrder}
 use Rattle.plain_tree.specs.Numbers.{Ascend, InOrder}
 use Rattle.tree_laws.proofs.Node.Ascend.{ascend-left, ascend-filter}
 use Rattle.tree_laws.proofs.Bools.{left_true, right_true, either_true, left_false, differ, is_false}
-use Rattle.tree_laws.proofs.Branches.{Uproots}
-use Rattle.tree_laws.proofs.CopyShape.{kind_some, entry_some}
-use Rattle.tree_laws.proofs.Losing.{Unlinks, Closes, Sweeps, none_some}
+use Rattle.tree_laws.proofs.Shape.Branch.{Uproots}
+use Rattle.tree_laws.proofs.Shape.Copy.{kind_some, entry_some}
+use Rattle.tree_laws.proofs.Shape.Loss.{Unlinks, Closes, Sweeps, none_some}
 use Rattle.tree_laws.proofs.Name.Order as names_by
-use Rattle.tree_laws.proofs.Nodes.{same_number}
+use Rattle.tree_laws.proofs.Node.Reading.{same_number}
 use Rattle.tree_laws.proofs.Node.Order as numbers_by
-use Rattle.tree_laws.proofs.Shape.{Same}
-use Rattle.tree_laws.proofs.Still.{absent}
-use Rattle.tree_laws.proofs.TreeShape.{kind_in, entry_in, shape_of, drop_shape, is_named_by, dead_is, alive_is}
+use Rattle.tree_laws.proofs.Shape.Words.{Same}
+use Rattle.tree_laws.proofs.Lock.Still.{absent}
+use Rattle.tree_laws.proofs.Shape.Tree.{kind_in, entry_in, shape_of, drop_shape, is_named_by, dead_is, alive_is}
 
 -- ---- a lock
 

@@ -11,9 +11,9 @@ use Rattle.plain_tree.specs.Files.{file_at, open_file, inode_of, with_bytes, wri
 use Rattle.plain_tree.specs.Operations.{checks, reply_to, tree_after}
 use Rattle.plain_tree.proofs.Replies.{reply_at, tree_at}
 use Rattle.tree_laws.specs.Files.{with_content, IsWritten, IsResized, ReadsAs, ReadsThere}
-use Rattle.tree_laws.proofs.Bytes.{written_bytes, length-resized, front-resized, zeros-resized}
-use Rattle.tree_laws.proofs.Checked.{first_passes, others_pass, is_open, is_file, read_is}
-use Rattle.tree_laws.proofs.Nodes.{found_itself, changes_one, node_of_handle}
+use Rattle.tree_laws.proofs.File.Bytes.{written_bytes, length-resized, front-resized, zeros-resized}
+use Rattle.tree_laws.proofs.File.Checked.{first_passes, others_pass, is_open, is_file, read_is}
+use Rattle.tree_laws.proofs.Node.Reading.{found_itself, changes_one, node_of_handle}
 
 -- a node with its bytes changed, and touched
 abbrev changed_bytes : (List ℕ → List ℕ) → ℕ → Node → Node

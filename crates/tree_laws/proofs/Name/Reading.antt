@@ -14,9 +14,9 @@ use Rattle.plain_tree.specs.Names.{RiseFrom, Rise}
 use Rattle.plain_tree.specs.Numbers.{Ascend}
 use Rattle.plain_tree.specs.Tree.{Node}
 use Rattle.tree_laws.proofs.Bools.{left_true, right_true, either_true}
-use Rattle.tree_laws.proofs.Nodes.{same_number, other_number, own_number}
-use Rattle.tree_laws.proofs.Spelling.{same_name, own_name, other_name}
-use Rattle.tree_laws.proofs.Still.{absent}
+use Rattle.tree_laws.proofs.Node.Reading.{same_number, other_number, own_number}
+use Rattle.tree_laws.proofs.Node.Keys.{same_name, own_name, other_name}
+use Rattle.tree_laws.proofs.Lock.Still.{absent}
 
 -- a comparison that takes only equal keys for one
 pub record Tells {K : Type 0} (compare : K → K → Ordering) : Type 0 where

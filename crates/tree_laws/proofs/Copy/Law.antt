@@ -26,17 +26,17 @@ use Rattle.tree_laws.specs.Changes.{ChangesOneNode}
 use Rattle.tree_laws.specs.Copies.{number_of, HasCopied, HasOneMore, LeavesTheRest, IsNew, IsAlike, IsCopied}
 use Rattle.plain_tree.specs.Names.{NamesInOrder}
 use Rattle.plain_tree.specs.Numbers.{InOrder}
-use Rattle.tree_laws.proofs.Branches.{Copies}
-use Rattle.tree_laws.proofs.CopyShape.{kind_some, none_at, copy_shape}
-use Rattle.tree_laws.proofs.Copying.{place_within, with_copies, old_node, new_node}
-use Rattle.tree_laws.proofs.Gaining.{IsBelow}
-use Rattle.tree_laws.proofs.Losing.{none_some}
-use Rattle.tree_laws.proofs.Nodes.{changes_one}
+use Rattle.tree_laws.proofs.Shape.Branch.{Copies}
+use Rattle.tree_laws.proofs.Shape.Copy.{kind_some, none_at, copy_shape}
+use Rattle.tree_laws.proofs.Copy.Nodes.{place_within, with_copies, old_node, new_node}
+use Rattle.tree_laws.proofs.Shape.Gain.{IsBelow}
+use Rattle.tree_laws.proofs.Shape.Loss.{none_some}
+use Rattle.tree_laws.proofs.Node.Reading.{changes_one}
 use Rattle.tree_laws.proofs.Walk.Passed.{all_pass, not_failed}
-use Rattle.tree_laws.proofs.Standing.{folder_is, free_is}
-use Rattle.tree_laws.proofs.Still.{present}
-use Rattle.tree_laws.proofs.TreeShape.{kind_in, entry_in, shape_of, Links, add_shape, changed_here, changed_there}
-use Rattle.tree_laws.proofs.Walked.{below_shape}
+use Rattle.tree_laws.proofs.Shape.Steps.{folder_is, free_is}
+use Rattle.tree_laws.proofs.Lock.Still.{present}
+use Rattle.tree_laws.proofs.Shape.Tree.{kind_in, entry_in, shape_of, Links, add_shape, changed_here, changed_there}
+use Rattle.tree_laws.proofs.Shape.Below.{below_shape}
 
 -- ---- a copied node
 

@@ -10,14 +10,14 @@ use Rattle.plain_tree.specs.Tree.{Content, Regular, Directory, Link, Node, Tree,
 use Rattle.plain_tree.specs.Names.{NamesInOrder}
 use Rattle.plain_tree.specs.Numbers.{InOrder}
 use Rattle.tree_laws.specs.Renames.{IsStamped, IsTouched}
-use Rattle.tree_laws.proofs.Gaining.{Moves}
-use Rattle.tree_laws.proofs.Losing.{Unlinks, Removes, none_some}
+use Rattle.tree_laws.proofs.Shape.Gain.{Moves}
+use Rattle.tree_laws.proofs.Shape.Loss.{Unlinks, Removes, none_some}
 use Rattle.std.specs.Ordering.{nat_cmp}
-use Rattle.tree_laws.proofs.Lookups.{numbers_tell, removed_there, number_removed}
+use Rattle.tree_laws.proofs.Name.Reading.{numbers_tell, removed_there, number_removed}
 use Rattle.tree_laws.proofs.Name.Order as names_by
 use Rattle.tree_laws.proofs.Node.Order as numbers_by
-use Rattle.tree_laws.proofs.Shape.{IsUnnamed, IsPlace, Same}
-use Rattle.tree_laws.proofs.TreeShape.{kind_in, entry_in, shape_of, same_shape, drop_shape, Links, add_shape, remove_shape, changed_here, changed_there, dead_is, not_named}
+use Rattle.tree_laws.proofs.Shape.Words.{IsUnnamed, IsPlace, Same}
+use Rattle.tree_laws.proofs.Shape.Tree.{kind_in, entry_in, shape_of, same_shape, drop_shape, Links, add_shape, remove_shape, changed_here, changed_there, dead_is, not_named}
 
 -- ---- what a change of one node leaves
 

@@ -14,12 +14,12 @@ use Rattle.plain_tree.specs.Tree.{Content, Regular, Directory, Link, Node, entry
 use Rattle.plain_tree.specs.Names.{RiseFrom, Rise, NamesRise}
 use Rattle.plain_tree.specs.Numbers.{Ascend}
 use Rattle.tree_laws.proofs.Bools.{both_false, is_false}
-use Rattle.tree_laws.proofs.Losing.{none_some}
-use Rattle.tree_laws.proofs.Lookups.{past_first, named_from, not_below, above}
-use Rattle.tree_laws.proofs.Nodes.{same_number, other_number, own_number}
-use Rattle.tree_laws.proofs.Spelling.{same_name, own_name}
-use Rattle.tree_laws.proofs.Still.{absent}
-use Rattle.tree_laws.proofs.TreeShape.{entry_in, entry_named, named_at}
+use Rattle.tree_laws.proofs.Shape.Loss.{none_some}
+use Rattle.tree_laws.proofs.Name.Reading.{past_first, named_from, not_below, above}
+use Rattle.tree_laws.proofs.Node.Reading.{same_number, other_number, own_number}
+use Rattle.tree_laws.proofs.Node.Keys.{same_name, own_name}
+use Rattle.tree_laws.proofs.Lock.Still.{absent}
+use Rattle.tree_laws.proofs.Shape.Tree.{entry_in, entry_named, named_at}
 
 -- ---- counts where a test fails
 

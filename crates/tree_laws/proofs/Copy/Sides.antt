@@ -15,11 +15,11 @@ use Rattle.plain_tree.specs.Tree.{Node, Tree, made_tree, node_at, handle_of, cha
 use Rattle.plain_tree.specs.WellFormed.{IsWellFormed}
 use Rattle.plain_tree.proofs.Replies.{tree_at}
 use Rattle.tree_laws.specs.Copies.{number_of, node_written, IsCopied, AreApart}
-use Rattle.tree_laws.proofs.Alone.{stays_alone}
-use Rattle.tree_laws.proofs.Copied.{CanBeCopied, node_below, can_be, copy_done}
+use Rattle.tree_laws.proofs.File.Alone.{stays_alone}
+use Rattle.tree_laws.proofs.Copy.Law.{CanBeCopied, node_below, can_be, copy_done}
 use Rattle.tree_laws.proofs.WellFormed.{reached_well_formed}
-use Rattle.tree_laws.proofs.Still.{present}
-use Rattle.tree_laws.proofs.TreeShape.{changed_there}
+use Rattle.tree_laws.proofs.Lock.Still.{present}
+use Rattle.tree_laws.proofs.Shape.Tree.{changed_there}
 
 write_if : (f : Node → Node) (changed inode x : ℕ) (t : Tree) (empty : Bool) → Some changed ≡ Some inode → x ≢ inode → node_at (cond empty t (change_node changed f t)) x ≡ node_at t x
 write_if f changed inode x t true names apart = refl

@@ -20,12 +20,12 @@ use Rattle.plain_tree.specs.Tree.{Content, Regular, Directory, Link, Node, Handl
 use Rattle.plain_tree.specs.Names.{Rise, NamesRise, NamesInOrder}
 use Rattle.plain_tree.specs.Numbers.{Ascend, InOrder}
 use Rattle.tree_laws.proofs.Bools.{left_true, right_true, either_true}
-use Rattle.tree_laws.proofs.Losing.{Unlinks, Removes, none_some, removed, spared}
-use Rattle.tree_laws.proofs.Lookups.{numbers_tell, names_tell, inserted_here, inserted_there, removed_there, number_removed, name_removed, named_in, any_named}
+use Rattle.tree_laws.proofs.Shape.Loss.{Unlinks, Removes, none_some, removed, spared}
+use Rattle.tree_laws.proofs.Name.Reading.{numbers_tell, names_tell, inserted_here, inserted_there, removed_there, number_removed, name_removed, named_in, any_named}
 use Rattle.tree_laws.proofs.Name.Order as names_by
-use Rattle.tree_laws.proofs.Nodes.{found_itself, changes_one, own_number, other_number}
-use Rattle.tree_laws.proofs.Shape.{Shape, IsUnnamed, Grown, NoneGoes, Only, IsPlace, Same}
-use Rattle.tree_laws.proofs.Still.{absent}
+use Rattle.tree_laws.proofs.Node.Reading.{found_itself, changes_one, own_number, other_number}
+use Rattle.tree_laws.proofs.Shape.Words.{Shape, IsUnnamed, Grown, NoneGoes, Only, IsPlace, Same}
+use Rattle.tree_laws.proofs.Lock.Still.{absent}
 
 abbrev pub kind_in : Option Node → Option Kind
 kind_in None = None

@@ -28,22 +28,22 @@ use Rattle.plain_tree.specs.Numbers.{Ascend, InOrder}
 use Rattle.tree_laws.specs.Removals.{IsRemoved}
 use Rattle.tree_laws.proofs.Node.Ascend.{ascend-left, ascend-filter}
 use Rattle.tree_laws.proofs.Bools.{left_true, right_true, either_true, differ, is_false}
-use Rattle.tree_laws.proofs.Branches.{Uproots}
-use Rattle.tree_laws.proofs.CopyShape.{kind_some, entry_some}
-use Rattle.tree_laws.proofs.Gaining.{IsBelow, root_inside, no_round}
-use Rattle.tree_laws.proofs.MovedShape.{Rooted, grown_of}
+use Rattle.tree_laws.proofs.Shape.Branch.{Uproots}
+use Rattle.tree_laws.proofs.Shape.Copy.{kind_some, entry_some}
+use Rattle.tree_laws.proofs.Shape.Gain.{IsBelow, root_inside, no_round}
+use Rattle.tree_laws.proofs.Shape.Definition.{Rooted, grown_of}
 use Rattle.tree_laws.proofs.WellFormed.{reached_sound}
-use Rattle.tree_laws.proofs.Losing.{Unlinks}
+use Rattle.tree_laws.proofs.Shape.Loss.{Unlinks}
 use Rattle.tree_laws.proofs.Name.Order as names_by
-use Rattle.tree_laws.proofs.Nodes.{same_number, changes_one}
+use Rattle.tree_laws.proofs.Node.Reading.{same_number, changes_one}
 use Rattle.tree_laws.proofs.Node.Order as numbers_by
 use Rattle.tree_laws.proofs.Walk.Passed.{all_pass}
-use Rattle.tree_laws.proofs.Shape.{NoneGoes, IsPlace, not_there}
-use Rattle.tree_laws.proofs.Standing.{Sound, folder_is}
-use Rattle.tree_laws.proofs.Still.{absent}
-use Rattle.tree_laws.proofs.SubtreeShape.{uproot_shape}
-use Rattle.tree_laws.proofs.TreeShape.{kind_in, entry_in, shape_of, changed_here, changed_there, drop_shape, is_named_by, names_it}
-use Rattle.tree_laws.proofs.Walked.{below_shape}
+use Rattle.tree_laws.proofs.Shape.Words.{NoneGoes, IsPlace, not_there}
+use Rattle.tree_laws.proofs.Shape.Steps.{Sound, folder_is}
+use Rattle.tree_laws.proofs.Lock.Still.{absent}
+use Rattle.tree_laws.proofs.Shape.Subtree.{uproot_shape}
+use Rattle.tree_laws.proofs.Shape.Tree.{kind_in, entry_in, shape_of, changed_here, changed_there, drop_shape, is_named_by, names_it}
+use Rattle.tree_laws.proofs.Shape.Below.{below_shape}
 
 -- ---- look-ups among what is left
 

@@ -10,7 +10,7 @@ use Rattle.plain_tree.specs.Operations.{checks, effect, tree_after}
 use Rattle.plain_tree.specs.Subtrees.{is_same, moved_entry}
 use Rattle.plain_tree.proofs.Replies.{tree_at, same_after}
 use Rattle.tree_laws.specs.Changes.{ChangesOneNode, node_changed}
-use Rattle.tree_laws.proofs.Nodes.{changes_one}
+use Rattle.tree_laws.proofs.Node.Reading.{changes_one}
 
 changes_none : (inode : ℕ) (t : Tree) → ChangesOneNode inode t t
 changes_none inode t = record { others = λ x apart. refl; handles = refl; next_inode = refl; next_handle = refl; block_size = refl }

@@ -10,12 +10,12 @@ use Rattle.plain_tree.specs.Tree.{Content, Regular, Directory, Link, Node, Tree,
 use Rattle.plain_tree.specs.WellFormed.{is_file, entries_naming, LeadsToRoot, HasOneTree, HasNoOrphans}
 use Rattle.plain_tree.specs.Names.{NamesInOrder}
 use Rattle.plain_tree.specs.Numbers.{InOrder}
-use Rattle.tree_laws.proofs.Counted.{sum_one}
-use Rattle.tree_laws.proofs.MovedOnce.{named_once}
-use Rattle.tree_laws.proofs.Renaming.{is_a_folder}
-use Rattle.tree_laws.proofs.Shape.{Leads, IsUnnamed, Grown, NoneGoes}
-use Rattle.tree_laws.proofs.Standing.{Sound}
-use Rattle.tree_laws.proofs.TreeShape.{kind_in, entry_in, shape_of, not_named, is_named_by}
+use Rattle.tree_laws.proofs.Shape.Count.{sum_one}
+use Rattle.tree_laws.proofs.Shape.Once.{named_once}
+use Rattle.tree_laws.proofs.Rename.Shape.{is_a_folder}
+use Rattle.tree_laws.proofs.Shape.Words.{Leads, IsUnnamed, Grown, NoneGoes}
+use Rattle.tree_laws.proofs.Shape.Steps.{Sound}
+use Rattle.tree_laws.proofs.Shape.Tree.{kind_in, entry_in, shape_of, not_named, is_named_by}
 
 -- ---- kinds
 

@@ -12,9 +12,9 @@ use Rattle.plain_tree.specs.Attributes.{names_in}
 use Rattle.plain_tree.specs.Entries.{entry_at}
 use Rattle.plain_tree.specs.Tree.{Content, Regular, Directory, Link, Node, Tree, node_at, entry_of}
 use Rattle.plain_tree.specs.WellFormed.{entries_naming}
-use Rattle.tree_laws.proofs.Lookups.{Tells, numbers_tell, names_tell}
-use Rattle.tree_laws.proofs.Shape.{cases_name}
-use Rattle.tree_laws.proofs.TreeShape.{entry_in}
+use Rattle.tree_laws.proofs.Name.Reading.{Tells, numbers_tell, names_tell}
+use Rattle.tree_laws.proofs.Shape.Words.{cases_name}
+use Rattle.tree_laws.proofs.Shape.Tree.{entry_in}
 
 -- ---- sums over what look-ups find
 

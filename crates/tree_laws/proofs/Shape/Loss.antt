@@ -4,7 +4,7 @@ use Rattle.std.proofs.lemmas.Bool.{cases_eq}
 use Rattle.s3_base.specs.declared.node_kind.Kind.{Kind}
 use Rattle.s3_base.specs.declared.node_kind.Kind.TheVariants as kinds
 use Rattle.plain_tree.specs.Tree.{root, lost_and_found}
-use Rattle.tree_laws.proofs.Shape.{Shape, Leads, IsUnnamed, Grown, NoneGoes, Only, IsPlace, cases_place, one_entry, not_there, leads_on}
+use Rattle.tree_laws.proofs.Shape.Words.{Shape, Leads, IsUnnamed, Grown, NoneGoes, Only, IsPlace, cases_place, one_entry, not_there, leads_on}
 
 none_if : (a b : Option ℕ) → ((z : ℕ) → b ≡ Some z → a ≡ Some z) → a ≡ None → b ≡ None
 none_if a None less none = refl

@@ -18,12 +18,12 @@ use Rattle.plain_tree.specs.Subtrees.{place_of, copy_number, copied_content, cop
 use Rattle.plain_tree.specs.Tree.{Content, Regular, Directory, Link, Node, Tree, node_at, entry_of}
 use Rattle.plain_tree.specs.Numbers.{InOrder}
 use Rattle.tree_laws.proofs.Bools.{left_true, right_true, either_true, differ}
-use Rattle.tree_laws.proofs.Branches.{Copies}
-use Rattle.tree_laws.proofs.Losing.{none_some}
-use Rattle.tree_laws.proofs.Nodes.{same_number, other_number, own_number}
-use Rattle.tree_laws.proofs.Shape.{IsPlace, cases_place, one_entry, not_there}
-use Rattle.tree_laws.proofs.Still.{present}
-use Rattle.tree_laws.proofs.TreeShape.{kind_in, entry_in, shape_of, Links, add_shape}
+use Rattle.tree_laws.proofs.Shape.Branch.{Copies}
+use Rattle.tree_laws.proofs.Shape.Loss.{none_some}
+use Rattle.tree_laws.proofs.Node.Reading.{same_number, other_number, own_number}
+use Rattle.tree_laws.proofs.Shape.Words.{IsPlace, cases_place, one_entry, not_there}
+use Rattle.tree_laws.proofs.Lock.Still.{present}
+use Rattle.tree_laws.proofs.Shape.Tree.{kind_in, entry_in, shape_of, Links, add_shape}
 
 pub kind_some : (found : Option Node) (k : Kind) → kind_in found ≡ Some k → (node : Node) × (found ≡ Some node) × (kind_of node.content ≡ k)
 kind_some None k is = absurd (cc is)

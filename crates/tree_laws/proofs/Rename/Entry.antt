@@ -18,17 +18,17 @@ use Rattle.plain_tree.specs.Names.{NamesInOrder}
 use Rattle.plain_tree.specs.Numbers.{InOrder}
 use Rattle.tree_laws.specs.Renames.{IsRenamed, HasLostName}
 use Rattle.tree_laws.proofs.Bools.{left_false}
-use Rattle.tree_laws.proofs.Gaining.{Moves}
-use Rattle.tree_laws.proofs.Losing.{none_some}
-use Rattle.tree_laws.proofs.Moving.{SameFrame, moved_to, move_shape, ordered_moved, names_moved, frame_moved, moved_other, moved_itself, moved_parents, touched_on, Settles, settles, settled_entry, is_stamped}
+use Rattle.tree_laws.proofs.Shape.Gain.{Moves}
+use Rattle.tree_laws.proofs.Shape.Loss.{none_some}
+use Rattle.tree_laws.proofs.Rename.Nodes.{SameFrame, moved_to, move_shape, ordered_moved, names_moved, frame_moved, moved_other, moved_itself, moved_parents, touched_on, Settles, settles, settled_entry, is_stamped}
 use Rattle.tree_laws.proofs.Name.Order as names_by
 use Rattle.tree_laws.proofs.Node.Order as numbers_by
 use Rattle.tree_laws.proofs.Walk.Passed.{AllPass, all_pass, not_failed}
-use Rattle.tree_laws.proofs.Renaming.{is_a_folder}
-use Rattle.tree_laws.proofs.Shape.{IsPlace, one_entry, not_there}
-use Rattle.tree_laws.proofs.Standing.{empty_is, folder_is}
-use Rattle.tree_laws.proofs.TreeShape.{kind_in, entry_in, shape_of}
-use Rattle.tree_laws.proofs.Walked.{below_shape}
+use Rattle.tree_laws.proofs.Rename.Shape.{is_a_folder}
+use Rattle.tree_laws.proofs.Shape.Words.{IsPlace, one_entry, not_there}
+use Rattle.tree_laws.proofs.Shape.Steps.{empty_is, folder_is}
+use Rattle.tree_laws.proofs.Shape.Tree.{kind_in, entry_in, shape_of}
+use Rattle.tree_laws.proofs.Shape.Below.{below_shape}
 
 -- what is used of a tree: its orders, that entries name nodes, and that no directory has itself
 pub record IsPlain (t : Tree) : Type 0 where

@@ -10,7 +10,7 @@ use Rattle.plain_tree.specs.Tree.{Node, stamped}
 use Rattle.tree_laws.specs.Locks.{IsKept}
 use Rattle.plain_tree.specs.Numbers.{Ascend}
 use Rattle.tree_laws.proofs.Node.Ascend.{below, ascend-left}
-use Rattle.tree_laws.proofs.Nodes.{same_number, other_number}
+use Rattle.tree_laws.proofs.Node.Reading.{same_number, other_number}
 
 -- what is found afterwards: nothing where nothing was, and a node that is kept where one was
 abbrev pub Still : Option Node → Option Node → Type 0

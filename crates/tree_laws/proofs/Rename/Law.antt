@@ -12,10 +12,10 @@ use Rattle.plain_tree.specs.Names.{NamesInOrder}
 use Rattle.plain_tree.specs.Numbers.{InOrder}
 use Rattle.tree_laws.specs.Renames.{IsRenamed}
 use Rattle.tree_laws.proofs.WellFormed.{IsWellFormed-tree_after, reached_well_formed}
-use Rattle.tree_laws.proofs.Moved.{IsPlain, renamed_done}
-use Rattle.tree_laws.proofs.MovedShape.{holds_kind, root_unnamed, one_place, way_up, grown_of, tree_of}
-use Rattle.tree_laws.proofs.Shape.{Leads}
-use Rattle.tree_laws.proofs.Sounding.{Sound-tree_after}
+use Rattle.tree_laws.proofs.Rename.Entry.{IsPlain, renamed_done}
+use Rattle.tree_laws.proofs.Shape.Definition.{holds_kind, root_unnamed, one_place, way_up, grown_of, tree_of}
+use Rattle.tree_laws.proofs.Shape.Words.{Leads}
+use Rattle.tree_laws.proofs.Shape.Operations.{Sound-tree_after}
 use Rattle.tree_laws.proofs.Name.Legal.{NamesAreLegal-tree_after}
 
 -- the way up from a directory that has itself never ends

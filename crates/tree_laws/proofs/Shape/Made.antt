@@ -8,11 +8,11 @@ use Rattle.s3_base.specs.declared.node_kind.Kind.{Kind}
 use Rattle.s3_base.specs.declared.node_kind.Kind.TheVariants as kinds
 use Rattle.plain_tree.specs.Entries.{entry_at}
 use Rattle.plain_tree.specs.Tree.{Directory, root, lost_and_found, empty_directory, made_tree, node_at}
-use Rattle.tree_laws.proofs.Nodes.{same_number}
-use Rattle.tree_laws.proofs.Shape.{Grown, NoneGoes}
-use Rattle.tree_laws.proofs.Spelling.{same_name}
-use Rattle.tree_laws.proofs.Standing.{Sound}
-use Rattle.tree_laws.proofs.TreeShape.{kind_in, entry_in, shape_of}
+use Rattle.tree_laws.proofs.Node.Reading.{same_number}
+use Rattle.tree_laws.proofs.Shape.Words.{Grown, NoneGoes}
+use Rattle.tree_laws.proofs.Node.Keys.{same_name}
+use Rattle.tree_laws.proofs.Shape.Steps.{Sound}
+use Rattle.tree_laws.proofs.Shape.Tree.{kind_in, entry_in, shape_of}
 
 -- ---- the tree that was just made
 

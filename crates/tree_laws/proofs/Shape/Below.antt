@@ -12,10 +12,10 @@ use Rattle.plain_tree.specs.Entries.{entries_of}
 use Rattle.plain_tree.specs.Tree.{Node, Tree, node_at}
 use Rattle.plain_tree.specs.Names.{Rise, NamesInOrder}
 use Rattle.tree_laws.proofs.Bools.{left_true, right_true, either_true}
-use Rattle.tree_laws.proofs.Gaining.{IsBelow}
-use Rattle.tree_laws.proofs.Lookups.{any_named}
-use Rattle.tree_laws.proofs.Nodes.{same_number}
-use Rattle.tree_laws.proofs.TreeShape.{shape_of, entry_in, rise_at, entry_to, entry_named}
+use Rattle.tree_laws.proofs.Shape.Gain.{IsBelow}
+use Rattle.tree_laws.proofs.Name.Reading.{any_named}
+use Rattle.tree_laws.proofs.Node.Reading.{same_number}
+use Rattle.tree_laws.proofs.Shape.Tree.{shape_of, entry_in, rise_at, entry_to, entry_named}
 
 -- ---- lists of inodes
 

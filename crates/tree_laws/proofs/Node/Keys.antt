@@ -6,7 +6,7 @@ use Rattle.std.specs.Cmp.Lexicographic.{slice_cmp}
 use Rattle.std.specs.Ordering.{nat_cmp, is_eq, ordering_then}
 use Rattle.std.specs.declared.cmp.Ordering.{Ordering}
 use Rattle.std.specs.declared.cmp.Ordering.TheVariants.{Less, Equal, Greater}
-use Rattle.tree_laws.proofs.Nodes.{same_number}
+use Rattle.tree_laws.proofs.Node.Reading.{same_number}
 
 same_if : (x y : ℕ) (xs ys : List ℕ) (order : Ordering) → nat_cmp x y ≡ order → (is_eq (slice_cmp nat_cmp xs ys) ≡ true → xs ≡ ys) → is_eq (ordering_then order (slice_cmp nat_cmp xs ys)) ≡ true
     → (x ∷ xs) ≡ (y ∷ ys)
