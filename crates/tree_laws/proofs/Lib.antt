@@ -1,4 +1,3 @@
-pub mod Bools
 pub mod Copy
 pub mod File
 pub mod Lock

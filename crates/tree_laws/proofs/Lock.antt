@@ -1,6 +1,6 @@
 -- What a lock keeps: the node itself, the entry that names it, and all below it.
+
 pub mod Entry
 pub mod Node
 pub mod Refusal
-pub mod Still
 pub mod Tree

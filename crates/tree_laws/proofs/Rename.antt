@@ -1,4 +1,5 @@
 -- What a rename moves.
+
 pub mod Entry
 pub mod Law
 pub mod Nodes

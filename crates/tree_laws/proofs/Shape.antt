@@ -1,4 +1,5 @@
 -- One tree of names without orphans: what a tree is apart from bytes and times, and what each operation does to that.
+
 pub mod Below
 pub mod Branch
 pub mod Copy
@@ -7,6 +8,7 @@ pub mod Definition
 pub mod Gain
 pub mod Loss
 pub mod Made
+pub mod Named
 pub mod Once
 pub mod Operations
 pub mod Steps

@@ -1,18 +1,18 @@
 -- Well-formed trees stay well formed.
 use Rattle.std.proofs.Common.{◌≡◌, ◌<◌, ℕ, ◌^◌, List, None, refl, ap, ◌∙◌, arith}
-use Rattle.op_frames.specs.declared.operation.Op.{Op}
 use Rattle.op_frames.specs.Replay.{Request}
+use Rattle.op_frames.specs.declared.operation.Op.{Op}
 use Rattle.plain_tree.specs.Calls.{tree_after_all}
 use Rattle.plain_tree.specs.Checks.{name_check}
 use Rattle.plain_tree.specs.Operations.{tree_after}
 use Rattle.plain_tree.specs.Tree.{Tree, lost_and_found, made_tree}
 use Rattle.plain_tree.specs.WellFormed.{IsWellFormed, HasTimes}
-use Rattle.tree_laws.proofs.Shape.Made.{made_entry, made_sound}
-use Rattle.tree_laws.proofs.Shape.Definition.{grown_of, tree_of, orphans_of}
 use Rattle.tree_laws.proofs.Name.Legal.{NamesAreLegal, NamesAreLegal-tree_after}
 use Rattle.tree_laws.proofs.Name.Order.{AttributesInOrder-tree_after}
 use Rattle.tree_laws.proofs.Node.Limits.{IsWithinRules-tree_after, HaveModes-tree_after}
 use Rattle.tree_laws.proofs.Node.Order.{HandlesInOrder-tree_after, below_in_order}
+use Rattle.tree_laws.proofs.Shape.Definition.{grown_of, tree_of, orphans_of}
+use Rattle.tree_laws.proofs.Shape.Made.{made_entry, made_sound}
 use Rattle.tree_laws.proofs.Shape.Operations.{Sound-tree_after}
 use Rattle.tree_laws.proofs.Shape.Steps.{Sound}
 use Rattle.tree_laws.proofs.Walk.Calls.{kept-tree_after_all}

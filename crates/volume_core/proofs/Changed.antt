@@ -7,7 +7,7 @@ use Rattle.std.proofs.lemmas.List.{replicate-append-replicate, take-append-le, t
 use Rattle.plain_tree.specs.Tree as tree
 use Rattle.plain_tree.specs.Tree.{Node, Tree, node_at, changed_by, change_node, touched, with_node}
 use Rattle.plain_tree.specs.Files.{padded, written_at, resized, bytes_of, file_at, with_bytes}
-use Rattle.tree_laws.proofs.Node.Reading.{found_itself, changes_one}
+use Rattle.tree_laws.proofs.Node.Reading.{node_at-changed_by_same, changed_by-changes_one}
 use Rattle.volume_core.specs.Files.{Files, bytes_at, IsChanged, AreSame, HasBytes}
 
 -- ---- in memory
@@ -96,8 +96,8 @@ node_changed f inode whole x = by_node (node_at whole inode) refl
     some : (node : Node) → node_at whole inode ≡ Some node → (d : Bool) → (x == inode) ≡ d → node_at (changed_by f (Some node) inode whole) x ≡ cond d (option_map f (node_at whole x)) (node_at whole x)
     some node is true here =
         let same : x ≡ inode = eqb-true x inode here in
-        ap (node_at (changed_by f (Some node) inode whole)) same ∙ found_itself f node inode whole is ∙ ap (option_map f) (sym (ap (node_at whole) same ∙ is))
-    some node is false apart = (changes_one f node inode whole is).others x (λ same. let clash : true ≡ false = sym (eq-eqb x inode same) ∙ apart in cc clash)
+        ap (node_at (changed_by f (Some node) inode whole)) same ∙ node_at-changed_by_same f node inode whole is ∙ ap (option_map f) (sym (ap (node_at whole) same ∙ is))
+    some node is false apart = (changed_by-changes_one f node inode whole is).others x (λ same. let clash : true ≡ false = sym (eq-eqb x inode same) ∙ apart in cc clash)
 
     by_node : (found : Option Node) → node_at whole inode ≡ found → node_at (change_node inode f whole) x ≡ cond (x == inode) (option_map f (node_at whole x)) (node_at whole x)
     by_node None is = ap (λ (n : Option Node). node_at (changed_by f n inode whole) x) is ∙ none is (x == inode) refl

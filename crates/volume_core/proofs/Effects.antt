@@ -24,7 +24,7 @@ use Rattle.s3_rows.specs.Selections.{inode_at}
 use Rattle.s3_rows.specs.Validity.{IsValid}
 use Rattle.tree_rows.specs.Shapes.{Represents}
 use Rattle.op_checks.proofs.Nodes.{node_absent}
-use Rattle.tree_laws.proofs.Name.Reading.{numbers_tell, inserted_here, inserted_there}
+use Rattle.tree_laws.proofs.Node.Keys.{numbers_tell, lookup-insert_entry_same, lookup-insert_entry_other}
 use Rattle.inode_ops.proofs.Opened.{stays_released, released_is, stays_left, left_is}
 use Rattle.ref_counts.specs.Handles.{OpenHandles, HasHandles, opened, closed, closed_all}
 use Rattle.ref_counts.specs.Plans.{AreNamed}
@@ -81,13 +81,13 @@ module _ (whole : Tree) (pass parent : ℕ) (name : List ℕ) (mode uid gid now 
       by_number x b true here is =
           let same : x ≡ whole.next_inode = eqb-true x whole.next_inode here in
           let new : file_at made x ≡ Some [] =
-          ap (file_at made) same ∙ ap (option_and_then (λ (node : Node). bytes_of node.content)) (inserted_here nat_cmp numbers_tell whole.next_inode (new_file mode uid gid now) whole.nodes) in
+          ap (file_at made) same ∙ ap (option_and_then (λ (node : Node). bytes_of node.content)) (lookup-insert_entry_same nat_cmp numbers_tell whole.next_inode (new_file mode uid gid now) whole.nodes) in
           let empty : [] ≡ b = cc (sym new ∙ is) in
           has.fresh x (subst (λ n. whole.next_inode ≤ n) (sym same) (omega arith)) ∙ empty
       by_number x b false apart is =
           let other : x ≢ whole.next_inode = λ same. let clash : true ≡ false = sym (eq-eqb x whole.next_inode same) ∙ apart in cc clash in
           let old : file_at made x ≡ file_at whole x =
-          ap (option_and_then (λ (node : Node). bytes_of node.content)) (inserted_there nat_cmp numbers_tell whole.next_inode x (new_file mode uid gid now) whole.nodes other) in
+          ap (option_and_then (λ (node : Node). bytes_of node.content)) (lookup-insert_entry_other nat_cmp numbers_tell whole.next_inode x (new_file mode uid gid now) whole.nodes other) in
           has.bytes x b (sym old ∙ is)
 
       each : (x : ℕ) (b : List ℕ) → file_at made x ≡ Some b → bytes_at files x ≡ b

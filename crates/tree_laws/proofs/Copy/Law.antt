@@ -1,14 +1,14 @@
 -- What a CopyTree that is answered with attributes leaves.
-use Rattle.std.proofs.Common.{◌≡◌, ◌<◌, ℕ, ◌+◌, List, [], ◌∷◌, true, false, cond, Option, None, Some, IsSome, refl, sym, ap, ◌∙◌, inl, inr, arith}
-use Rattle.std.specs.Prelude.{length}
+use Rattle.std.proofs.Common.{◌≡◌, ◌<◌, ℕ, ◌+◌, List, [], ◌∷◌, true, false, cond, Option, None, Some, refl, sym, ap, ◌∙◌, inl, inr, arith}
+use Rattle.std.proofs.lemmas.Map.Made.{lookup-map_values, keys_of-map_values}
 use Rattle.std.specs.BTreeMap.{is_at, insert_entry}
 use Rattle.std.specs.Cmp.Lexicographic.{slice_cmp}
 use Rattle.std.specs.Map.{lookup}
 use Rattle.std.specs.Option.{option_map}
 use Rattle.std.specs.Ordering.{nat_cmp, match_ordering, is_eq}
+use Rattle.std.specs.Prelude.{length}
 use Rattle.std.specs.declared.cmp.Ordering.{Ordering}
 use Rattle.std.specs.declared.cmp.Ordering.TheVariants.{Less, Equal, Greater}
-use Rattle.std.proofs.lemmas.Map.Made.{lookup-map_values, keys_of-map_values}
 use Rattle.op_frames.specs.declared.operation.Op.TheVariants as ops
 use Rattle.op_frames.specs.declared.reply.Attr.{Attr}
 use Rattle.op_frames.specs.declared.reply.Reply.TheVariants as replies
@@ -17,26 +17,26 @@ use Rattle.plain_tree.specs.Attributes.{kind_of}
 use Rattle.plain_tree.specs.Below.{is_among, at_and_below}
 use Rattle.plain_tree.specs.Checks.{first_failure}
 use Rattle.plain_tree.specs.Entries.{entry_at}
-use Rattle.plain_tree.specs.Operations.{checks, reply_to, tree_after}
-use Rattle.plain_tree.specs.Subtrees.{copy_number, copied_content, copied_node, with_copy}
-use Rattle.plain_tree.specs.Tree.{Content, Regular, Directory, Link, Node, Tree, node_at, entry_of, changed_by, named, touched}
-use Rattle.plain_tree.specs.WellFormed.{HasOneTree}
-use Rattle.plain_tree.proofs.Replies.{reply_at, tree_at}
-use Rattle.tree_laws.specs.Changes.{ChangesOneNode}
-use Rattle.tree_laws.specs.Copies.{number_of, HasCopied, HasOneMore, LeavesTheRest, IsNew, IsAlike, IsCopied}
 use Rattle.plain_tree.specs.Names.{NamesInOrder}
 use Rattle.plain_tree.specs.Numbers.{InOrder}
-use Rattle.tree_laws.proofs.Shape.Branch.{Copies}
-use Rattle.tree_laws.proofs.Shape.Copy.{kind_some, none_at, copy_shape}
-use Rattle.tree_laws.proofs.Copy.Nodes.{place_within, with_copies, old_node, new_node}
-use Rattle.tree_laws.proofs.Shape.Gain.{IsBelow}
-use Rattle.tree_laws.proofs.Shape.Loss.{none_some}
-use Rattle.tree_laws.proofs.Node.Reading.{changes_one}
-use Rattle.tree_laws.proofs.Walk.Passed.{all_pass, not_failed}
-use Rattle.tree_laws.proofs.Shape.Steps.{folder_is, free_is}
-use Rattle.tree_laws.proofs.Lock.Still.{present}
-use Rattle.tree_laws.proofs.Shape.Tree.{kind_in, entry_in, shape_of, Links, add_shape, changed_here, changed_there}
+use Rattle.plain_tree.specs.Operations.{checks, reply_to, tree_after}
+use Rattle.plain_tree.specs.Subtrees.{copy_number, copied_content, copied_node, with_copy}
+use Rattle.plain_tree.specs.Tree.{Content, Regular, Directory, Link, Node, Tree, node_at, entry_of, named, touched}
+use Rattle.plain_tree.specs.WellFormed.{HasOneTree}
+use Rattle.plain_tree.proofs.Replies.{tree_at}
+use Rattle.tree_laws.specs.Changes.{ChangesOneNode}
+use Rattle.tree_laws.specs.Copies.{number_of, HasCopied, HasOneMore, LeavesTheRest, IsNew, IsAlike, IsCopied}
+use Rattle.tree_laws.proofs.Copy.Nodes.{place_within, with_copies, node_before, new_node}
+use Rattle.tree_laws.proofs.File.Alone.{changes_found}
+use Rattle.tree_laws.proofs.Node.Kind.{kind_in, entry_in, none_some, some_node, kind_some, folder_entries, entry_copied, folder_is, free_is}
+use Rattle.tree_laws.proofs.Node.Reading.{lookup_below_next, node_at_none_next, node_at-change_node_same, node_at-change_node_other}
 use Rattle.tree_laws.proofs.Shape.Below.{below_shape}
+use Rattle.tree_laws.proofs.Shape.Branch.{Copies}
+use Rattle.tree_laws.proofs.Shape.Copy.{shape-with_copy}
+use Rattle.tree_laws.proofs.Shape.Gain.{IsBelow}
+use Rattle.tree_laws.proofs.Shape.Tree.{shape_of, Links, shape-add_entry}
+use Rattle.tree_laws.proofs.Walk.Calls.{passes_by}
+use Rattle.tree_laws.proofs.Walk.Passed.{all_pass, not_failed}
 
 -- ---- a copied node
 
@@ -45,11 +45,6 @@ copied_is next order (Regular bytes) = refl
 copied_is next order (Link target) = refl
 copied_is next order (Directory entries) =
     (_, refl, keys_of-map_values (copy_number next order) entries, λ name. lookup-map_values (copy_number next order) (is_at (slice_cmp nat_cmp name)) entries)
-
-entry_copied : (next : ℕ) (order : List ℕ) (content : Content) (m : List ℕ) → entry_of (copied_content next order content) m ≡ option_map (copy_number next order) (entry_of content m)
-entry_copied next order (Directory entries) m = lookup-map_values (copy_number next order) (is_at (slice_cmp nat_cmp m)) entries
-entry_copied next order (Regular bytes) m = refl
-entry_copied next order (Link target) m = refl
 
 -- ---- a new entry
 
@@ -67,20 +62,7 @@ longer : (n : List ℕ) (x : ℕ) (es : List (List ℕ × ℕ)) → lookup (is_a
 longer n x [] none = omega arith
 longer n x (e ∷ es) none = longer_if n e.0 x e.1 es (insert_entry (slice_cmp nat_cmp) es n x) (slice_cmp nat_cmp n e.0) refl none (longer n x es)
 
-folder_entries : (content : Content) → kind_of content ≡ kinds.Directory → (entries : List (List ℕ × ℕ)) × (content ≡ Directory entries)
-folder_entries (Directory entries) is = (entries, refl)
-folder_entries (Regular bytes) is = absurd (cc is)
-folder_entries (Link target) is = absurd (cc is)
-
 -- ---- the copy
-
-some_node : (found : Option Node) → IsSome found → (node : Node) × (found ≡ Some node)
-some_node None is = absurd (cc is)
-some_node (Some node) is = (node, refl)
-
-changes_found : (f : Node → Node) (inode : ℕ) (t : Tree) (found : Option Node) → node_at t inode ≡ found → ChangesOneNode inode t (changed_by f found inode t)
-changes_found f inode t None is = record { others = λ x apart. refl; handles = refl; next_inode = refl; next_handle = refl; block_size = refl }
-changes_found f inode t (Some node) is = changes_one f node inode t is
 
 one_of : (f : ℕ → ℕ) (good : ℕ → Type 0) → ((x y : ℕ) → good x → good y → f x ≡ f y → x ≡ y) → (found other : Option ℕ) → ((y : ℕ) → found ≡ Some y → good y) → ((y : ℕ) → other ≡ Some y → good y)
     → option_map f found ≡ option_map f other → found ≡ other
@@ -113,11 +95,11 @@ node_below t source p n can x among =
 parent_fits : (t : Tree) (source p : ℕ) (n : List ℕ) → CanBeCopied t source p n → p < t.next_inode
 parent_fits t source p n can =
     let node = kind_some (node_at t p) kinds.Directory can.parent in
-    present p 0 t.nodes t.next_inode node.0 can.ordered node.1
+    lookup_below_next p 0 t.nodes t.next_inode node.0 can.ordered node.1
 
 shaped : (t : Tree) (source p : ℕ) (n : List ℕ) (now : ℕ) → CanBeCopied t source p n
     → Copies (shape_of t) (shape_of (with_copy source p n now t)) p n source (is_among (at_and_below t source)) (copy_number t.next_inode (at_and_below t source))
-shaped t source p n now can = copy_shape source p n now t can.ordered can.parent can.free (below_shape t can.names source).itself
+shaped t source p n now can = shape-with_copy source p n now t can.ordered can.parent can.free (below_shape t can.names source).itself
 
 -- the copy of a node
 copy_there : (t : Tree) (source p : ℕ) (n : List ℕ) (now : ℕ) → CanBeCopied t source p n → (x : ℕ) (node : Node) → is_among (at_and_below t source) x ≡ true → node_at t x ≡ Some node
@@ -125,7 +107,7 @@ copy_there : (t : Tree) (source p : ℕ) (n : List ℕ) (now : ℕ) → CanBeCop
 copy_there t source p n now can x node among is =
     let order : List ℕ = at_and_below t source in
     let fits : p < t.next_inode = parent_fits t source p n can in
-    changed_there _ p (number_of t source x) (with_copies t order now) (λ same. omega (arith, same, fits)) ∙ new_node t can.ordered order now (shaped t source p n now can).apart x node among is
+    node_at-change_node_other _ p (number_of t source x) (with_copies t order now) (λ same. omega (arith, same, fits)) ∙ new_node t can.ordered order now x node among is
 
 copied_alike : (t : Tree) (source p : ℕ) (n : List ℕ) (now : ℕ) → CanBeCopied t source p n → (x : ℕ) (name : List ℕ) → is_among (at_and_below t source) x ≡ true
     → entry_at (with_copy source p n now t) (number_of t source x) name ≡ option_map (number_of t source) (entry_at t x name)
@@ -142,15 +124,15 @@ gains t source p n now can =
     let more : Tree = with_copies t order now in
     let node = kind_some (node_at t p) kinds.Directory can.parent in
     let entries = folder_entries node.0.content node.2 in
-    let old : node_at more p ≡ node_at t p = old_node t source now p (parent_fits t source p n can) in
-    let links : Links (shape_of more) (shape_of (with_copy source p n now t)) p n t.next_inode = add_shape p n t.next_inode now more (ap kind_in old ∙ can.parent) in
+    let old : node_at more p ≡ node_at t p = node_before t source now p (parent_fits t source p n can) in
+    let links : Links (shape_of more) (shape_of (with_copy source p n now t)) p n t.next_inode = shape-add_entry p n t.next_inode now more (ap kind_in old ∙ can.parent) in
     record {
       node = node.0;
       old = entries.0;
       new = insert_entry (slice_cmp nat_cmp) entries.0 n t.next_inode;
       was = node.1;
       was_folder = entries.1;
-      is = changed_here _ p more ∙ ap (option_map (λ node. touched now (record node { content = named n t.next_inode node.content }))) (old ∙ node.1)
+      is = node_at-change_node_same _ p more ∙ ap (option_map (λ node. touched now (record node { content = named n t.next_inode node.content }))) (old ∙ node.1)
           ∙ ap (λ c. Some (touched now (record node.0 { content = named n t.next_inode c }))) entries.1;
       size_is = longer n t.next_inode entries.0 (sym (ap (entry_in n) node.1 ∙ ap (λ c. entry_of c n) entries.1) ∙ can.free);
       free = can.free;
@@ -164,7 +146,7 @@ leaves t source p n now can =
     let f : Node → Node = λ node. touched now (record node { content = named n t.next_inode node.content }) in
     let only : ChangesOneNode p more (with_copy source p n now t) = changes_found f p more (node_at more p) refl in
     record {
-      others = λ x less apart. only.others x apart ∙ old_node t source now x less;
+      others = λ x less apart. only.others x apart ∙ node_before t source now x less;
       outside = can.outside;
       next_inode = only.next_inode;
       handles = only.handles;
@@ -175,8 +157,8 @@ leaves t source p n now can =
 first_number : (t : Tree) (source p : ℕ) (n : List ℕ) (now : ℕ) → CanBeCopied t source p n → number_of t source source ≡ t.next_inode
 first_number t source p n now can =
     let more : Tree = with_copies t (at_and_below t source) now in
-    let old : node_at more p ≡ node_at t p = old_node t source now p (parent_fits t source p n can) in
-    let links : Links (shape_of more) (shape_of (with_copy source p n now t)) p n t.next_inode = add_shape p n t.next_inode now more (ap kind_in old ∙ can.parent) in
+    let old : node_at more p ≡ node_at t p = node_before t source now p (parent_fits t source p n can) in
+    let links : Links (shape_of more) (shape_of (with_copy source p n now t)) p n t.next_inode = shape-add_entry p n t.next_inode now more (ap kind_in old ∙ can.parent) in
     let both_ways : Some (number_of t source source) ≡ Some t.next_inode = sym (shaped t source p n now can).here ∙ links.here in
     cc both_ways
 
@@ -189,7 +171,7 @@ news t source p n now can =
       only = λ z less there.
           let node = some_node (node_at after z) there in
           elim (copied.from_kind z (kind_of node.0.content) (ap kind_in node.1)) [
-            | inl old ↦ absurd (none_some (kind_in (node_at t z)) (kind_of node.0.content) (ap kind_in (none_at t can.ordered z less)) old)
+            | inl old ↦ absurd (none_some (kind_in (node_at t z)) (kind_of node.0.content) (ap kind_in (node_at_none_next t can.ordered z less)) old)
             | inr from ↦ (from.of, from.within, from.is)
           ];
       apart = copied.apart;
@@ -248,21 +230,21 @@ can_be_copied t pass source p n is ordered names tree =
       free = free_is (node_at t p) n all.1.1.1.1.1.1.1.0;
     }
 
-copied_by : (t : Tree) (pass now source p : ℕ) (n : List ℕ) (attr : Attr) (failure : Option ℕ) → first_failure (checks t pass (ops.CopyTree source p n)) ≡ failure
-    → reply_to t pass (ops.CopyTree source p n) now ≡ replies.Attr attr → failure ≡ None
-copied_by t pass now source p n attr None is replied = refl
-copied_by t pass now source p n attr (Some errno) is replied =
-    let refused = sym (reply_at t pass now (ops.CopyTree source p n) (Some errno) is) ∙ replied in
-    absurd (cc refused)
+copied_passes : (t : Tree) (pass now source p : ℕ) (n : List ℕ) (attr : Attr) → reply_to t pass (ops.CopyTree source p n) now ≡ replies.Attr attr
+    → first_failure (checks t pass (ops.CopyTree source p n)) ≡ None
+copied_passes t pass now source p n attr replied =
+    passes_by t pass now (ops.CopyTree source p n) (λ errno refused.
+    let both : replies.Attr attr ≡ replies.Errno errno = sym replied ∙ refused in
+    cc both)
 
 -- where it is answered with attributes, no check fails
 pub can_be : (t : Tree) (pass now source p : ℕ) (n : List ℕ) (attr : Attr) → InOrder t → NamesInOrder t → HasOneTree t → reply_to t pass (ops.CopyTree source p n) now ≡ replies.Attr attr
     → CanBeCopied t source p n
-can_be t pass now source p n attr ordered names tree replied = can_be_copied t pass source p n (copied_by t pass now source p n attr _ refl replied) ordered names tree
+can_be t pass now source p n attr ordered names tree replied = can_be_copied t pass source p n (copied_passes t pass now source p n attr replied) ordered names tree
 
 pub copy_done : (t : Tree) (pass now source p : ℕ) (n : List ℕ) (attr : Attr) → InOrder t → NamesInOrder t → HasOneTree t → reply_to t pass (ops.CopyTree source p n) now ≡ replies.Attr attr
     → IsCopied source p n now t (tree_after t pass (ops.CopyTree source p n) now)
 copy_done t pass now source p n attr ordered names tree replied =
     let can : CanBeCopied t source p n = can_be t pass now source p n attr ordered names tree replied in
-    rw (tree_at t pass now (ops.CopyTree source p n) None (copied_by t pass now source p n attr _ refl replied))
+    rw (tree_at t pass now (ops.CopyTree source p n) None (copied_passes t pass now source p n attr replied))
     (record { gains = gains t source p n now can; rest = leaves t source p n now can; new = news t source p n now can; alike = alike t source p n now can })

@@ -1,15 +1,14 @@
 -- A walk visits each node once, and so copies are numbered one after the other.
 use Rattle.std.proofs.Common.{◌≡◌, ℕ, zero, suc, ◌+◌, List, [], ◌∷◌, ◌++◌, Bool, true, false, cond, Option, None, Some, refl, sym, ap, ◌∙◌, subst, arith}
-use Rattle.std.specs.Prelude.{◌==◌, length, fold}
+use Rattle.std.proofs.lemmas.Bool.{eq-eqb, or_parts}
 use Rattle.std.proofs.lemmas.List.{append-nil, append_assoc, length-append}
-use Rattle.std.proofs.lemmas.Bool.{eq-eqb}
 use Rattle.std.specs.Map.{keys_of}
-use Rattle.plain_tree.specs.Tree.{Node, Tree, node_at}
+use Rattle.std.specs.Prelude.{◌==◌, length, fold}
 use Rattle.plain_tree.specs.Below.{is_among, children, walk, at_and_below}
-use Rattle.plain_tree.specs.Subtrees.{place_of, copy_number, copied_node, copies}
 use Rattle.plain_tree.specs.Numbers.{Ascend}
-use Rattle.tree_laws.proofs.Node.Ascend.{lower}
-use Rattle.tree_laws.proofs.Bools.{both_false}
+use Rattle.plain_tree.specs.Subtrees.{place_of, copy_number, copied_node, copies}
+use Rattle.plain_tree.specs.Tree.{Node, Tree, node_at}
+use Rattle.tree_laws.proofs.Node.Ascend.{Ascend-lower}
 
 -- each is none of those before it
 abbrev pub Fresh : List ℕ → List ℕ → Type 0
@@ -44,7 +43,7 @@ visited_once t inode = visit (suc (length t.nodes)) t inode [] _
 place_behind : (seen : List ℕ) (inode : ℕ) (inodes : List ℕ) → is_among seen inode ≡ false → place_of inode (seen ++ inode ∷ inodes) ≡ length seen
 place_behind [] inode inodes new = rw (eq-eqb inode inode refl) refl
 place_behind (first ∷ seen) inode inodes new =
-    let differs = both_false (first == inode) (is_among seen inode) new in
+    let differs = or_parts (first == inode) (is_among seen inode) new in
     let rest : place_of inode (seen ++ inode ∷ inodes) ≡ length seen = place_behind seen inode inodes differs.1 in
     rw differs.0 (omega (arith, rest))
 
@@ -52,7 +51,7 @@ place_behind (first ∷ seen) inode inodes new =
 copies_if : (t : Tree) (order inodes : List ℕ) (now inode low next : ℕ) (found : Option Node) → copy_number t.next_inode order inode ≡ low → Ascend (low + 1) (keys_of (copies t order now inodes)) next
     → Ascend low (keys_of (elim found as (λ _. List (ℕ × Node)) [ Some node ↦ (copy_number t.next_inode order inode, copied_node t.next_inode order now node) ∷ copies t order now inodes | None ↦ copies t order now inodes ])) next
 copies_if t order inodes now inode low next (Some node) is rest = rw is (omega arith, rest)
-copies_if t order inodes now inode low next None is rest = lower (low + 1) low (keys_of (copies t order now inodes)) next (omega arith) rest
+copies_if t order inodes now inode low next None is rest = Ascend-lower (low + 1) low (keys_of (copies t order now inodes)) next (omega arith) rest
 
 copies_from : (t : Tree) (order : List ℕ) (now : ℕ) (seen inodes : List ℕ) → order ≡ seen ++ inodes → Fresh seen inodes
     → Ascend (t.next_inode + length seen) (keys_of (copies t order now inodes)) (t.next_inode + length order)

@@ -15,17 +15,16 @@ use Rattle.plain_tree.specs.Tree.{Node, Tree, made_tree, node_at, handle_of, cha
 use Rattle.plain_tree.specs.WellFormed.{IsWellFormed}
 use Rattle.plain_tree.proofs.Replies.{tree_at}
 use Rattle.tree_laws.specs.Copies.{number_of, node_written, IsCopied, AreApart}
-use Rattle.tree_laws.proofs.File.Alone.{stays_alone}
 use Rattle.tree_laws.proofs.Copy.Law.{CanBeCopied, node_below, can_be, copy_done}
+use Rattle.tree_laws.proofs.File.Alone.{stays_alone}
+use Rattle.tree_laws.proofs.Node.Reading.{lookup_below_next, node_at-change_node_other}
 use Rattle.tree_laws.proofs.WellFormed.{reached_well_formed}
-use Rattle.tree_laws.proofs.Lock.Still.{present}
-use Rattle.tree_laws.proofs.Shape.Tree.{changed_there}
 
 write_if : (f : Node → Node) (changed inode x : ℕ) (t : Tree) (empty : Bool) → Some changed ≡ Some inode → x ≢ inode → node_at (cond empty t (change_node changed f t)) x ≡ node_at t x
 write_if f changed inode x t true names apart = refl
 write_if f changed inode x t false names apart =
     let same : changed ≡ inode = cc names in
-    changed_there f changed x t (λ equal. apart (equal ∙ same))
+    node_at-change_node_other f changed x t (λ equal. apart (equal ∙ same))
 
 write_leaves : (t : Tree) (pass now inode x handle offset : ℕ) (text : List ℕ) (failure : Option ℕ) → first_failure (checks t pass (ops.Write handle offset text)) ≡ failure
     → Some (inode_of (handle_of t pass handle)) ≡ Some inode → x ≢ inode → node_at (tree_after t pass (ops.Write handle offset text) now) x ≡ node_at t x
@@ -43,7 +42,7 @@ leaves t pass now inode x op names apart = (stays_alone t pass now inode op _ re
 below_next : (t : Tree) (source p : ℕ) (n : List ℕ) → CanBeCopied t source p n → (x : ℕ) → is_among (at_and_below t source) x ≡ true → x < t.next_inode
 below_next t source p n can x among =
     let node = node_below t source p n can x among in
-    present x 0 t.nodes t.next_inode node.0 can.ordered node.1
+    lookup_below_next x 0 t.nodes t.next_inode node.0 can.ordered node.1
 
 sides_differ : (t : Tree) (source p : ℕ) (n : List ℕ) → CanBeCopied t source p n → (x y : ℕ) → is_among (at_and_below t source) x ≡ true → x ≢ number_of t source y
 sides_differ t source p n can x y among same = omega (arith, same, below_next t source p n can x among)

@@ -3,21 +3,21 @@ use Rattle.std.proofs.Common.{◌≡◌, ℕ, List, true, cond, Option, None, So
 use Rattle.std.proofs.lemmas.Bool.{eq-eqb}
 use Rattle.op_frames.specs.declared.operation.Op.{Op}
 use Rattle.op_frames.specs.declared.operation.Op.TheVariants as ops
-use Rattle.plain_tree.specs.Tree.{Node, Tree, node_at, changed_by, change_node}
 use Rattle.plain_tree.specs.Checks.{first_failure}
 use Rattle.plain_tree.specs.Entries.{entry_at}
 use Rattle.plain_tree.specs.Operations.{checks, effect, tree_after}
 use Rattle.plain_tree.specs.Subtrees.{is_same, moved_entry}
+use Rattle.plain_tree.specs.Tree.{Node, Tree, node_at, changed_by, change_node}
 use Rattle.plain_tree.proofs.Replies.{tree_at, same_after}
 use Rattle.tree_laws.specs.Changes.{ChangesOneNode, node_changed}
-use Rattle.tree_laws.proofs.Node.Reading.{changes_one}
+use Rattle.tree_laws.proofs.Node.Reading.{changed_by-changes_one}
 
 changes_none : (inode : ℕ) (t : Tree) → ChangesOneNode inode t t
 changes_none inode t = record { others = λ x apart. refl; handles = refl; next_inode = refl; next_handle = refl; block_size = refl }
 
-changes_found : (f : Node → Node) (inode : ℕ) (t : Tree) (found : Option Node) → node_at t inode ≡ found → ChangesOneNode inode t (changed_by f found inode t)
+pub changes_found : (f : Node → Node) (inode : ℕ) (t : Tree) (found : Option Node) → node_at t inode ≡ found → ChangesOneNode inode t (changed_by f found inode t)
 changes_found f inode t None is = changes_none inode t
-changes_found f inode t (Some node) is = changes_one f node inode t is
+changes_found f inode t (Some node) is = changed_by-changes_one f node inode t is
 
 changes_alone : (f : Node → Node) (changed inode : ℕ) (t : Tree) → Some changed ≡ Some inode → ChangesOneNode inode t (change_node changed f t)
 changes_alone f changed inode t names =

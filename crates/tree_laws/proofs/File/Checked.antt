@@ -1,13 +1,13 @@
 -- What the checks say where none of them fails.
 use Rattle.std.proofs.Common.{◌≡◌, ◌≤◌, ℕ, List, [], ◌∷◌, Option, None, Some, refl, ap, ◌∙◌}
-use Rattle.std.specs.Prelude.{take, drop, unwrap_or}
 use Rattle.std.proofs.lemmas.Bool.{le-ltb}
+use Rattle.std.specs.Prelude.{take, drop, unwrap_or}
 use Rattle.op_frames.specs.declared.operation.Op.TheVariants as ops
 use Rattle.op_frames.specs.declared.reply.Reply.TheVariants as replies
-use Rattle.plain_tree.specs.Tree.{Content, Regular, Directory, Link, Node, Tree}
-use Rattle.plain_tree.specs.Checks.{first_failure, fails_with, open_check, node_check, file_check, read_length_check}
+use Rattle.plain_tree.specs.Checks.{first_failure, fails_with, open_check, read_length_check}
 use Rattle.plain_tree.specs.Files.{open_file, read_at}
 use Rattle.plain_tree.specs.Operations.{reply_to}
+use Rattle.plain_tree.specs.Tree.{Tree}
 use Rattle.plain_tree.proofs.Replies.{reply_at}
 
 pub first_passes : (check : Option ℕ) (others : List (Option ℕ)) → first_failure (check ∷ others) ≡ None → check ≡ None
@@ -20,21 +20,6 @@ others_pass (Some n) others is = absurd (cc is)
 
 pub both_pass : (check other : Option ℕ) → check ≡ None → other ≡ None → first_failure (check ∷ other ∷ []) ≡ None
 both_pass check other first second = rw (first, second) refl
-
-pub is_open : (found : Option (List ℕ)) → open_check found ≡ None → (old : List ℕ) × (found ≡ Some old)
-is_open None is = absurd (cc is)
-is_open (Some old) is = (old, refl)
-
-file_content : (content : Content) → elim content as (λ _. Option ℕ) [ Regular bytes ↦ None | Directory entries ↦ Some 21 | Link target ↦ Some 22 ] ≡ None → (old : List ℕ) × (content ≡ Regular old)
-file_content (Regular bytes) is = (bytes, refl)
-file_content (Directory entries) is = absurd (cc is)
-file_content (Link target) is = absurd (cc is)
-
-pub is_file : (found : Option Node) → node_check found ≡ None → file_check found ≡ None → (node : Node) × (old : List ℕ) × (found ≡ Some node) × (node.content ≡ Regular old)
-is_file None there file = absurd (cc there)
-is_file (Some node) there file =
-    let content = file_content node.content file in
-    (node, content.0, refl, content.1)
 
 -- ---- a read that all checks let pass
 

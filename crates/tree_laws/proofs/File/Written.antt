@@ -1,19 +1,20 @@
 -- A file after a write, and after a truncation, that are answered with success.
 use Rattle.std.proofs.Common.{◌≡◌, ◌≤◌, ℕ, List, [], ◌∷◌, false, cond, Option, None, Some, refl, sym, ap, ◌∙◌, arith}
-use Rattle.std.specs.Prelude.{◌==◌, length}
 use Rattle.std.proofs.lemmas.Bool.{ne_eqb}
+use Rattle.std.specs.Prelude.{◌==◌, length}
 use Rattle.op_frames.specs.declared.operation.Op.TheVariants as ops
 use Rattle.op_frames.specs.declared.reply.Attr.{Attr}
 use Rattle.op_frames.specs.declared.reply.Reply.TheVariants as replies
-use Rattle.plain_tree.specs.Tree.{Regular, Node, Tree, node_at, handle_of, changed_by, change_node, touched}
 use Rattle.plain_tree.specs.Checks.{first_failure, node_check, file_check, lock_check, size_check}
 use Rattle.plain_tree.specs.Files.{file_at, open_file, inode_of, with_bytes, written_at, resized}
 use Rattle.plain_tree.specs.Operations.{checks, reply_to, tree_after}
+use Rattle.plain_tree.specs.Tree.{Regular, Node, Tree, node_at, handle_of, changed_by, change_node, touched}
 use Rattle.plain_tree.proofs.Replies.{reply_at, tree_at}
 use Rattle.tree_laws.specs.Files.{with_content, IsWritten, IsResized, ReadsAs, ReadsThere}
 use Rattle.tree_laws.proofs.File.Bytes.{written_bytes, length-resized, front-resized, zeros-resized}
-use Rattle.tree_laws.proofs.File.Checked.{first_passes, others_pass, is_open, is_file, read_is}
-use Rattle.tree_laws.proofs.Node.Reading.{found_itself, changes_one, node_of_handle}
+use Rattle.tree_laws.proofs.File.Checked.{first_passes, others_pass, read_is}
+use Rattle.tree_laws.proofs.Node.Kind.{file_of, opened_file}
+use Rattle.tree_laws.proofs.Node.Reading.{node_at-changed_by_same, changed_by-changes_one, node_of_handle}
 
 -- a node with its bytes changed, and touched
 abbrev changed_bytes : (List ℕ → List ℕ) → ℕ → Node → Node
@@ -41,7 +42,7 @@ written t inode offset now text node old was file =
     let f : Node → Node = changed_bytes (written_at offset text) now in
     let new : List ℕ = written_at offset text old in
     let is : node_at (changed_by f (Some node) inode t) inode ≡ Some (with_content now new node) =
-    found_itself f node inode t was ∙ ap Some (changed-is (written_at offset text) now node old file) in
+    node_at-changed_by_same f node inode t was ∙ ap Some (changed-is (written_at offset text) now node old file) in
     record {
       node = node;
       old = old;
@@ -51,7 +52,7 @@ written t inode offset now text node old was file =
       is = is;
       bytes = written_bytes offset text old;
       reads = reads_as t (changed_by f (Some node) inode t) inode new (with_content now new node) refl is refl;
-      only = changes_one f node inode t was;
+      only = changed_by-changes_one f node inode t was;
     }
 
 reads_there : (t after : Tree) (inode offset now : ℕ) (text : List ℕ) → IsWritten inode offset now text t after → ReadsThere inode offset text t after
@@ -74,7 +75,7 @@ write_done t pass now handle offset count text None is replied some =
     let counted : replies.Count (length text) ≡ replies.Count count = sym (reply_at t pass now (ops.Write handle offset text) None is) ∙ replied in
     let all : length text ≡ count = cc counted in
     let not_empty : (length text == 0) ≡ false = ne_eqb (length text) 0 (λ empty. omega (arith, all, empty, some)) in
-    let opened = is_open (open_file t pass handle) (first_passes _ _ is) in
+    let opened = opened_file (open_file t pass handle) (first_passes _ _ is) in
     let found = node_of_handle t (handle_of t pass handle) opened.0 opened.1 in
     let f : Node → Node = changed_bytes (written_at offset text) now in
     let after : tree_after t pass (ops.Write handle offset text) now ≡ changed_by f (Some found.0) inode t =
@@ -92,7 +93,7 @@ truncated t inode size now node old was file =
     let f : Node → Node = changed_bytes (resized size) now in
     let new : List ℕ = resized size old in
     let is : node_at (changed_by f (Some node) inode t) inode ≡ Some (with_content now new node) =
-    found_itself f node inode t was ∙ ap Some (changed-is (resized size) now node old file) in
+    node_at-changed_by_same f node inode t was ∙ ap Some (changed-is (resized size) now node old file) in
     record {
       node = node;
       old = old;
@@ -104,7 +105,7 @@ truncated t inode size now node old was file =
       front = front-resized size old;
       zeros = zeros-resized size old;
       reads = reads_as t (changed_by f (Some node) inode t) inode new (with_content now new node) refl is refl;
-      only = changes_one f node inode t was;
+      only = changed_by-changes_one f node inode t was;
     }
 
 pub truncate_done : (t : Tree) (pass now inode size : ℕ) (attr : Attr) (failure : Option ℕ) → first_failure (checks t pass (ops.Truncate inode size)) ≡ failure
@@ -115,7 +116,7 @@ truncate_done t pass now inode size attr (Some errno) is replied =
 truncate_done t pass now inode size attr None is replied =
     let later : List (Option ℕ) = lock_check (node_at t inode) ∷ size_check size ∷ [] in
     let rest : first_failure (file_check (node_at t inode) ∷ later) ≡ None = others_pass (node_check (node_at t inode)) (file_check (node_at t inode) ∷ later) is in
-    let found = is_file (node_at t inode) (first_passes _ _ is) (first_passes (file_check (node_at t inode)) later rest) in
+    let found = file_of (node_at t inode) (first_passes _ _ is) (first_passes (file_check (node_at t inode)) later rest) in
     let f : Node → Node = changed_bytes (resized size) now in
     let after : tree_after t pass (ops.Truncate inode size) now ≡ changed_by f (Some found.0) inode t =
     tree_at t pass now (ops.Truncate inode size) None is ∙ changed_node f inode t found.0 found.2 in

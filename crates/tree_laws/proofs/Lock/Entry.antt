@@ -1,7 +1,8 @@
 -- An entry that names a locked node, through every operation.
 use Rattle.std.proofs.Common.{◌≡◌, ◌≢◌, ℕ, List, [], ◌∷◌, Bool, true, false, cond, Option, None, Some, refl, sym, ap, ◌∙◌, inl, inr, subst, arith}
-use Rattle.std.specs.Prelude.{◌==◌, not, unwrap_or, option_and_then}
+use Rattle.std.proofs.lemmas.Bool.{cond_both}
 use Rattle.std.specs.List.{filter}
+use Rattle.std.specs.Prelude.{◌==◌, not, unwrap_or, option_and_then}
 use Rattle.op_frames.specs.Replay.{Request}
 use Rattle.op_frames.specs.declared.operation.Op.{Op}
 use Rattle.op_frames.specs.declared.operation.Op.TheVariants as ops
@@ -20,22 +21,25 @@ use Rattle.plain_tree.specs.Tree.{Node, Tree, root, node_at, handle_of, change_n
 use Rattle.plain_tree.proofs.Replies.{reply_at}
 use Rattle.tree_laws.specs.LockedTrees.{Spares, AllSpare, IsAsBefore}
 use Rattle.tree_laws.specs.Locks.{IsKept}
-use Rattle.tree_laws.proofs.Shape.Copy.{none_at, copy_shape}
 use Rattle.tree_laws.proofs.Lock.Node.{kept_after}
 use Rattle.tree_laws.proofs.Lock.Refusal.{locked_fails}
-use Rattle.tree_laws.proofs.Shape.Loss.{Unlinks, Sweeps, none_some}
 use Rattle.tree_laws.proofs.Name.Order.{NamesInOrder-drop_entry}
+use Rattle.tree_laws.proofs.Node.Kind.{kind_in, entry_in, none_some, folder_is, free_is, no_folder_is, empty_is}
 use Rattle.tree_laws.proofs.Node.Order.{InOrder-change_node}
+use Rattle.tree_laws.proofs.Node.Reading.{node_at_none_next, node_at-with_node_other}
+use Rattle.tree_laws.proofs.Shape.Below.{below_shape}
+use Rattle.tree_laws.proofs.Shape.Copy.{shape-with_copy}
+use Rattle.tree_laws.proofs.Shape.Loss.{Unlinks, Sweeps}
+use Rattle.tree_laws.proofs.Shape.Named.{dead_is}
+use Rattle.tree_laws.proofs.Shape.Operations.{shape-edited, Sound-tree_after}
+use Rattle.tree_laws.proofs.Shape.Steps.{Sound}
+use Rattle.tree_laws.proofs.Shape.Subtree.{shape-with_lock, shape-without_pass, shape-without_tree}
+use Rattle.tree_laws.proofs.Shape.Tree.{shape_of, shape-drop_entry, Links, shape-add_entry, shape-without_node}
 use Rattle.tree_laws.proofs.Shape.Words.{IsUnnamed, IsPlace, not_there}
-use Rattle.tree_laws.proofs.Shape.Operations.{edit_shape, Sound-tree_after}
-use Rattle.tree_laws.proofs.Shape.Steps.{Sound, folder_is, free_is, no_folder_is, empty_is}
-use Rattle.tree_laws.proofs.Shape.Subtree.{lock_shape, leave_shape, uproot_shape}
-use Rattle.tree_laws.proofs.Shape.Tree.{kind_in, entry_in, shape_of, drop_shape, Links, add_shape, node_kept, remove_shape, dead_is}
 use Rattle.tree_laws.proofs.Walk.Calls.{after_call}
 use Rattle.tree_laws.proofs.Walk.Edits.{Stamp, built}
 use Rattle.tree_laws.proofs.Walk.Operations.{Effects, effects-effect}
 use Rattle.tree_laws.proofs.Walk.Passed.{CanMove, CanUnlink, CanUnmake}
-use Rattle.tree_laws.proofs.Shape.Below.{below_shape}
 
 -- an entry that names a locked node
 pub record Held (t : Tree) (p x : ℕ) (n : List ℕ) (node : Node) : Type 0 where
@@ -67,16 +71,12 @@ another t p x n node held q m unlocked place = locked_fails (child_at t q m) nod
 
 -- ---- nodes that go
 
-settle_if : (y p x : ℕ) (n : List ℕ) (t : Tree) → InOrder t → (lives t y ≡ false → p ≢ y) → entry_at t p n ≡ Some x → (test : Bool) → lives t y ≡ test
-    → entry_at (cond test t (without_node y t)) p n ≡ Some x
-settle_if y p x n t ordered apart names true is = names
-settle_if y p x n t ordered apart names false is = (remove_shape y t ordered).entry p n (apart is) ∙ names
-
 settle : (y p x : ℕ) (n : List ℕ) (t : Tree) → InOrder t → (lives t y ≡ false → p ≢ y) → entry_at t p n ≡ Some x → entry_at (settled y t) p n ≡ Some x
-settle y p x n t ordered apart names = settle_if y p x n t ordered apart names (lives t y) refl
+settle y p x n t ordered apart names =
+    cond_both (lives t y) t (without_node y t) (λ after. entry_at after p n ≡ Some x) (λ is. names) (λ is. (shape-without_node y t ordered).entry p n (apart is) ∙ names)
 
 stamp : (now y p x : ℕ) (n : List ℕ) (t : Tree) → entry_at t p n ≡ Some x → entry_at (change_node y (stamped now) t) p n ≡ Some x
-stamp now y p x n t names = (edit_shape now Stamp _ y t).entry p n ∙ names
+stamp now y p x n t names = (shape-edited now Stamp _ y t).entry p n ∙ names
 
 drop : (now : ℕ) (found : Option ℕ) (p x : ℕ) (n : List ℕ) (t : Tree) → InOrder t → ((y : ℕ) → found ≡ Some y → p ≢ y) → entry_at t p n ≡ Some x → entry_at (dropped now found t) p n ≡ Some x
 drop now None p x n t ordered apart names = names
@@ -88,13 +88,13 @@ drop now (Some y) p x n t ordered apart names =
 made : (t : Tree) (q : ℕ) (m : List ℕ) (new : Node) (now : ℕ) → InOrder t → kind_in (node_at t q) ≡ Some kinds.Directory → entry_at t q m ≡ None → (p x : ℕ) (n : List ℕ)
     → kind_in (node_at t p) ≡ Some kinds.Directory → entry_at t p n ≡ Some x → entry_at (add_entry q m t.next_inode now (with_node new t)) p n ≡ Some x
 made t q m new now ordered parent free p x n folder names =
-    let none : node_at t t.next_inode ≡ None = none_at t ordered t.next_inode (omega arith) in
+    let none : node_at t t.next_inode ≡ None = node_at_none_next t ordered t.next_inode (omega arith) in
     let old : (r : ℕ) → kind_in (node_at t r) ≡ Some kinds.Directory → r ≢ t.next_inode = λ r is same.
     none_some (kind_in (node_at t r)) kinds.Directory (ap (λ k. kind_in (node_at t k)) same ∙ ap kind_in none) is in
     let more : Tree = with_node new t in
     let links : Links (shape_of more) (shape_of (add_entry q m t.next_inode now more)) q m t.next_inode =
-    add_shape q m t.next_inode now more (ap kind_in (node_kept new t q (old q parent)) ∙ parent) in
-    links.rest p n (elsewhere t p x n names q m free) ∙ ap (entry_in n) (node_kept new t p (old p folder)) ∙ names
+    shape-add_entry q m t.next_inode now more (ap kind_in (node_at-with_node_other new t q (old q parent)) ∙ parent) in
+    links.rest p n (elsewhere t p x n names q m free) ∙ ap (entry_in n) (node_at-with_node_other new t p (old p folder)) ∙ names
 
 -- a directory that has entries is none that the checks found empty
 not_empty : (t : Tree) (p x : ℕ) (n : List ℕ) (node : Node) → Held t p x n node → (q : ℕ) (m : List ℕ) → empty_check (child_at t q m) ≡ None → (y : ℕ) → entry_at t q m ≡ Some y → p ≢ y
@@ -111,10 +111,10 @@ moved t p x n node held q m nq nm now can (Some y) =
     let one : Tree = drop_entry q m now t in
     let two : Tree = drop_entry nq nm now one in
     let three : Tree = add_entry nq nm y now two in
-    let first : Unlinks (shape_of t) (shape_of one) q m = drop_shape q m now t held.sound.names in
-    let second : Unlinks (shape_of one) (shape_of two) nq nm = drop_shape nq nm now one (NamesInOrder-drop_entry q m now t held.sound.names) in
+    let first : Unlinks (shape_of t) (shape_of one) q m = shape-drop_entry q m now t held.sound.names in
+    let second : Unlinks (shape_of one) (shape_of two) nq nm = shape-drop_entry nq nm now one (NamesInOrder-drop_entry q m now t held.sound.names) in
     let folder : kind_in (node_at t nq) ≡ Some kinds.Directory = folder_is (node_at t nq) can.rename.new_there can.rename.new_folder in
-    let links : Links (shape_of two) (shape_of three) nq nm y = add_shape nq nm y now two (second.kind nq ∙ first.kind nq ∙ folder) in
+    let links : Links (shape_of two) (shape_of three) nq nm y = shape-add_entry nq nm y now two (second.kind nq ∙ first.kind nq ∙ folder) in
     let old : IsPlace q m p n → ⊥ = another t p x n node held q m can.rename.child_unlocked in
     let new : IsPlace nq nm p n → ⊥ = another t p x n node held nq nm can.new_child_unlocked in
     let ordered : InOrder three = InOrder-change_node _ nq two (InOrder-change_node _ nq one (InOrder-change_node _ q t held.sound.ordered)) in
@@ -128,21 +128,21 @@ unlinked t p x n node held q m now can =
     drop now (entry_at t q m) p x n (drop_entry q m now t) (InOrder-change_node _ q t held.sound.ordered)
     (λ y is same.
     no_folder_is 21 (child_at t q m) can.file (ap (λ o. kind_in (option_and_then (node_at t) o)) is ∙ ap (λ k. kind_in (node_at t k)) (sym same) ∙ folder_of t p x n node held))
-    ((drop_shape q m now t held.sound.names).rest p n (another t p x n node held q m can.child_unlocked) ∙ held.names)
+    ((shape-drop_entry q m now t held.sound.names).rest p n (another t p x n node held q m can.child_unlocked) ∙ held.names)
 
 unmade : (t : Tree) (p x : ℕ) (n : List ℕ) (node : Node) → Held t p x n node → (q : ℕ) (m : List ℕ) (now : ℕ) → CanUnmake t q m → (found : Option ℕ) → entry_at t q m ≡ found
     → entry_at (without_node (unwrap_or found 0) (drop_entry q m now t)) p n ≡ Some x
 unmade t p x n node held q m now can None is = absurd (cc (ap entry_check (sym is) ∙ can.drop.entry))
 unmade t p x n node held q m now can (Some y) is =
-    (remove_shape y (drop_entry q m now t) (InOrder-change_node _ q t held.sound.ordered)).entry p n (not_empty t p x n node held q m can.empty y is)
-    ∙ (drop_shape q m now t held.sound.names).rest p n (another t p x n node held q m can.child_unlocked) ∙ held.names
+    (shape-without_node y (drop_entry q m now t) (InOrder-change_node _ q t held.sound.ordered)).entry p n (not_empty t p x n node held q m can.empty y is)
+    ∙ (shape-drop_entry q m now t held.sound.names).rest p n (another t p x n node held q m can.child_unlocked) ∙ held.names
 
 uprooted : (t : Tree) (p x : ℕ) (n : List ℕ) (node : Node) → Held t p x n node → (q : ℕ) (m : List ℕ) (now : ℕ) → (found : Option ℕ)
     → ((top : ℕ) → found ≡ Some top → (is_at_or_below t top p ≡ false) × ((p ≡ q) × (n ≡ m) → ⊥)) → entry_at (without_tree q m now found t) p n ≡ Some x
 uprooted t p x n node held q m now None spares = held.names
 uprooted t p x n node held q m now (Some top) spares =
     let out = spares top refl in
-    (uproot_shape q m now top t held.sound.ordered held.sound.names held.sound.grown.rooted).rest p n out.0 out.1 ∙ held.names
+    (shape-without_tree q m now top t held.sound.ordered held.sound.names held.sound.grown.rooted).rest p n out.0 out.1 ∙ held.names
 
 -- ---- a pass that leaves
 
@@ -157,14 +157,14 @@ lives_if t sound w keeps sweeps p folder false is =
 held_effects : (t : Tree) (pass now : ℕ) (op : Op) (p x : ℕ) (n : List ℕ) (node : Node) → Held t p x n node → Spares t p n op replies.Done → Effects t pass now op (λ after. entry_at after p n ≡ Some x)
 held_effects t pass now op p x n node held spares = record {
   same = held.names;
-  edits = λ e y fits allowed alone. (edit_shape now e alone y t).entry p n ∙ held.names;
+  edits = λ e y fits allowed alone. (shape-edited now e alone y t).entry p n ∙ held.names;
   makes = λ q m new begins can.
       made t q m (built now new) now held.sound.ordered (folder_is (node_at t q) can.there can.folder) (free_is (node_at t q) m can.free) p x n (folder_of t p x n node held) held.names;
   creates = λ q m mode uid gid fits can handles.
       made (with_handle (record { inode = t.next_inode; pass = pass }) t) q m (new_file mode uid gid now) now held.sound.ordered (folder_is (node_at t q) can.there can.folder)
       (free_is (node_at t q) m can.free) p x n (folder_of t p x n node held) held.names;
   links = λ y q m can.
-      let links : Links (shape_of t) (shape_of (add_entry q m y now t)) q m y = add_shape q m y now t (folder_is (node_at t q) can.parent_there can.parent_folder) in
+      let links : Links (shape_of t) (shape_of (add_entry q m y now t)) q m y = shape-add_entry q m y now t (folder_is (node_at t q) can.parent_there can.parent_folder) in
       stamp now y p x n (add_entry q m y now t) (links.rest p n (elsewhere t p x n held.names q m (free_is (node_at t q) m can.free)) ∙ held.names);
   unlinks = λ q m can. unlinked t p x n node held q m now can;
   unmakes = λ q m can. unmade t p x n node held q m now can (entry_at t q m) refl;
@@ -179,13 +179,13 @@ held_effects t pass now op p x n node held spares = record {
       not_alone t held.sound p (folder_of t p x n node held) (λ q m names. dead.0 q m (names ∙ ap Some same)) (λ top. dead.2 (sym same ∙ top)))
       held.names;
   copies = λ source q m can.
-      (copy_shape source q m now t held.sound.ordered (folder_is (node_at t q) can.there can.folder) (free_is (node_at t q) m can.free) (below_shape t held.sound.names source).itself).old_entry p x n
+      (shape-with_copy source q m now t held.sound.ordered (folder_is (node_at t q) can.there can.folder) (free_is (node_at t q) m can.free) (below_shape t held.sound.names source).itself).old_entry p x n
       held.names;
-  locks = λ y. (lock_shape y t).entry p n ∙ held.names;
+  locks = λ y. (shape-with_lock y t).entry p n ∙ held.names;
   uproots = λ q m is can. uprooted t p x n node held q m now (entry_at t q m) (λ top names. subst (λ o. Spares t p n o replies.Done) is spares top refl names);
   leaves =
       let keeps : ℕ → Bool = lives (record t { handles = filter (λ h. not (h.1.pass == pass)) t.handles }) in
-      let sweeps : Sweeps (shape_of t) (shape_of (without_pass pass t)) keeps = leave_shape pass t held.sound.ordered held.sound.names in
+      let sweeps : Sweeps (shape_of t) (shape_of (without_pass pass t)) keeps = shape-without_pass pass t held.sound.ordered held.sound.names in
       sweeps.entry p n ∙ ap (λ b. cond b (entry_at t p n) None) (lives_if t held.sound (without_pass pass t) keeps sweeps p (folder_of t p x n node held) (keeps p) refl) ∙ held.names;
 }
 

@@ -1,14 +1,15 @@
 -- A locked node through every operation.
-use Rattle.std.proofs.Common.{◌≡◌, ◌≤◌, ◌<◌, ℕ, ◌+◌, List, [], ◌∷◌, Bool, true, false, cond, Option, None, Some, refl, sym, ap, ◌∙◌, ◌⊎◌, inl, inr, subst, arith}
-use Rattle.std.specs.Prelude.{◌==◌, not, ◌&&◌, length, map}
+use Rattle.std.proofs.Common.{◌≡◌, ◌≤◌, ◌<◌, ℕ, ◌+◌, List, Bool, true, false, cond, Option, None, Some, refl, sym, ap, ◌∙◌, inl, inr, subst, arith}
+use Rattle.std.proofs.lemmas.Bool.{cases_eq}
+use Rattle.std.proofs.lemmas.Map.Entries.{lookup-filter-keys}
 use Rattle.std.specs.BTreeMap.{is_at}
 use Rattle.std.specs.List.{filter}
 use Rattle.std.specs.Map.{lookup}
+use Rattle.std.specs.Option.{option_map}
 use Rattle.std.specs.Ordering.{nat_cmp}
-use Rattle.std.proofs.lemmas.Bool.{cases_eq}
-use Rattle.std.proofs.lemmas.Map.Entries.{lookup-filter-keys}
-use Rattle.op_frames.specs.declared.operation.Op.{Op}
+use Rattle.std.specs.Prelude.{◌==◌, not, ◌&&◌, length}
 use Rattle.op_frames.specs.Replay.{Request}
+use Rattle.op_frames.specs.declared.operation.Op.{Op}
 use Rattle.plain_tree.specs.Below.{is_among, at_and_below}
 use Rattle.plain_tree.specs.Calls.{tree_after_all}
 use Rattle.plain_tree.specs.Checks.{lock_check}
@@ -16,17 +17,47 @@ use Rattle.plain_tree.specs.Entries.{is_directory, lives}
 use Rattle.plain_tree.specs.Numbers.{InOrder}
 use Rattle.plain_tree.specs.Operations.{tree_after}
 use Rattle.plain_tree.specs.Subtrees.{copies, left_over, without_directories}
-use Rattle.plain_tree.specs.Tree.{Node, Tree, node_at, change_node, changed_by, stamped}
+use Rattle.plain_tree.specs.Tree.{Node, Tree, node_at, change_node, changed_by, stamped, without_node}
 use Rattle.tree_laws.specs.Locks.{IsKept}
-use Rattle.tree_laws.proofs.Lock.Refusal.{locked_fails}
-use Rattle.tree_laws.proofs.Node.Order.{order_walk}
-use Rattle.tree_laws.proofs.Node.Reading.{same_number, found_itself}
-use Rattle.tree_laws.proofs.Lock.Still.{Still, still_same, still_equal, still_gone, still_later, still_removed, still_left, absent, present, found_inserted, found_before}
-use Rattle.tree_laws.proofs.Shape.Tree.{changed_there}
 use Rattle.tree_laws.proofs.Copy.Numbers.{copies_ascend}
+use Rattle.tree_laws.proofs.Lock.Refusal.{locked_fails}
+use Rattle.tree_laws.proofs.Node.Keys.{same_number, lookup-remove_entry_other, numbers_tell, lookup-append_before}
+use Rattle.tree_laws.proofs.Node.Kind.{one_some}
+use Rattle.tree_laws.proofs.Node.Order.{order_walk}
+use Rattle.tree_laws.proofs.Node.Reading.{lookup_none_below, lookup_below_next, lookup-insert_entry_next, node_at-changed_by_same, node_at-change_node_other, lookup-remove_entry_same}
+use Rattle.tree_laws.proofs.Node.Subtree.{lock_within, locked_found, left_of, left_over_found}
 use Rattle.tree_laws.proofs.Walk.Calls.{walk-tree_after, kept-tree_after_all}
 use Rattle.tree_laws.proofs.Walk.Edits.{Edit, Stamp, edited, IsAllowed, built}
 use Rattle.tree_laws.proofs.Walk.Operations.{Walk}
+
+-- ---- a node that stays or goes
+
+-- what is found afterwards: nothing where nothing was, and a node that is kept where one was
+abbrev pub Still : Option Node → Option Node → Type 0
+Still None after = after ≡ None
+Still (Some node) after = IsKept after node
+
+pub still_same : (found : Option Node) → Still found found
+still_same None = refl
+still_same (Some node) = inr (node.ctime, refl)
+
+pub still_equal : (found after : Option Node) → after ≡ found → Still found after
+still_equal found after is = subst (λ a. Still found a) (sym is) (still_same found)
+
+pub still_gone : (found : Option Node) → Still found None
+still_gone None = refl
+still_gone (Some node) = inl refl
+
+kept_on : (node : Node) (later : Option Node) (time : ℕ) → Still (Some (stamped time node)) later → Still (Some node) later
+kept_on node later time (inl gone) = inl gone
+kept_on node later time (inr again) = inr again
+
+pub still_later : (found after later : Option Node) → Still found after → Still after later → Still found later
+still_later None after later first second = subst (λ a. Still a later) first second
+still_later (Some node) after later (inl gone) second =
+    let none : later ≡ None = subst (λ a. Still a later) gone second in
+    inl none
+still_later (Some node) after later (inr is) second = kept_on node later is.0 (subst (λ a. Still a later) is.1 second)
 
 -- the node of an inode number, if there is one
 abbrev IfThere : Tree → ℕ → (Node → Type 0) → Type 0
@@ -58,7 +89,7 @@ not_there f x t none = ap (λ found. node_at (changed_by f found x t) x) none
 
 stamped_found : (now x : ℕ) (t : Tree) (found : Option Node) → node_at t x ≡ found → Still found (node_at (changed_by (stamped now) found x t) x)
 stamped_found now x t None is = is
-stamped_found now x t (Some node) is = inr (now, found_itself (stamped now) node x t is)
+stamped_found now x t (Some node) is = inr (now, node_at-changed_by_same (stamped now) node x t is)
 
 -- what passed the lock check before is not there
 unlocked : (before : Tree) (x : ℕ) (t : Tree) → IfThere before x (λ node. node.locked ≡ true) → lock_check (node_at before x) ≡ None → (found : Option Node) → node_at before x ≡ found
@@ -78,33 +109,32 @@ edit_stays before now x locked e y t allowed stays =
     elim (cases_eq y x) [
       | inl same ↦
           subst (λ k. Still (node_at t x) (node_at (change_node k (edited now e) t) x)) (sym same) (edit_here before now x t locked e (subst (λ k. IsAllowed before k e) same allowed) stays.still)
-      | inr differs ↦ still_equal (node_at t x) (node_at (change_node y (edited now e) t) x) (changed_there (edited now e) y x t (λ same. differs (sym same)))
+      | inr differs ↦ still_equal (node_at t x) (node_at (change_node y (edited now e) t) x) (node_at-change_node_other (edited now e) y x t (λ same. differs (sym same)))
     ]
 
 -- ---- locks, and what goes
 
-lock_there : (here : Bool) (old new : Node) (found after : Option Node) → (old.locked ≡ true → new ≡ old) → ((n : Node) → cond here (Some old) found ≡ Some n → n.locked ≡ true)
-    → (((n : Node) → found ≡ Some n → n.locked ≡ true) → Still found after) → Still (cond here (Some old) found) (cond here (Some new) after)
-lock_there true old new found after same locked rest = still_equal (Some old) (Some new) (ap Some (same (locked old refl)))
-lock_there false old new found after same locked rest = rest locked
+still_locked : (among : Bool) (found : Option Node) → ((node : Node) → found ≡ Some node → node.locked ≡ true) → Still found (option_map (lock_within among) found)
+still_locked among None locked = refl
+still_locked true (Some node) locked = still_equal (Some node) (Some (record node { locked = true })) (ap (λ b. Some (record node { locked = b })) (sym (locked node refl)))
+still_locked false (Some node) locked = still_same (Some node)
 
-lock_one : (among : Bool) (inode : ℕ) (e : ℕ × Node) (es others : List (ℕ × Node)) → ((n : Node) → lookup (is_at (nat_cmp inode)) (e ∷ es) ≡ Some n → n.locked ≡ true)
-    → (((n : Node) → lookup (is_at (nat_cmp inode)) es ≡ Some n → n.locked ≡ true) → Still (lookup (is_at (nat_cmp inode)) es) (lookup (is_at (nat_cmp inode)) others))
-    → Still (lookup (is_at (nat_cmp inode)) (e ∷ es)) (lookup (is_at (nat_cmp inode)) (cond among (e.0, record e.1 { locked = true }) e ∷ others))
-lock_one true inode e es others locked rest =
-    lock_there (is_at (nat_cmp inode) e.0) e.1 (record e.1 { locked = true }) _ _ (λ is. ap (λ b. record e.1 { locked = b }) (sym is)) locked rest
-lock_one false inode e es others locked rest = lock_there (is_at (nat_cmp inode) e.0) e.1 e.1 _ _ (λ is. refl) locked rest
+left_still : (among stays : Bool) (now x : ℕ) (node : Node) → Still (Some node) (option_map (λ (p : ℕ × Node). p.1) (cond among (cond stays (Some (x, stamped now node)) None) (Some (x, node))))
+left_still true true now x node = inr (now, refl)
+left_still true false now x node = inl refl
+left_still false stays now x node = still_same (Some node)
 
-locks : (below : List ℕ) (inode : ℕ) (es : List (ℕ × Node)) → ((n : Node) → lookup (is_at (nat_cmp inode)) es ≡ Some n → n.locked ≡ true)
-    → Still (lookup (is_at (nat_cmp inode)) es) (lookup (is_at (nat_cmp inode)) (map (λ e. cond (is_among below e.0) (e.0, record e.1 { locked = true }) e) es))
-locks below inode [] locked = refl
-locks below inode (e ∷ es) locked = lock_one (is_among below e.0) inode e es _ locked (λ rest. locks below inode es rest)
+still_left : (below : List ℕ) (without : Tree) (now x : ℕ) (found : Option Node) → Still found (left_of (left_over without below now) x found)
+still_left below without now x None = refl
+still_left below without now x (Some node) = left_still (is_among below x) (lives without x && not (is_directory node.content)) now x node
 
-leaves : (among stays : Bool) (now : ℕ) (e : ℕ × Node) → (cond among (cond stays (Some (e.0, stamped now e.1)) None) (Some e) ≡ None)
-    ⊎ ((node : Node) × (cond among (cond stays (Some (e.0, stamped now e.1)) None) (Some e) ≡ Some (e.0, node)) × Still (Some e.1) (Some node))
-leaves true true now e = inr (stamped now e.1, refl, inr (now, refl))
-leaves true false now e = inl refl
-leaves false stays now e = inr (e.1, refl, still_same (Some e.1))
+still_removed : (x y : ℕ) (t : Tree) → InOrder t → Still (node_at t x) (node_at (without_node y t) x)
+still_removed x y t ordered =
+    elim (cases_eq y x) [
+      | inl same ↦
+          subst (λ k. Still (node_at t x) (node_at (without_node k t) x)) (sym same) (subst (Still (node_at t x)) (sym (lookup-remove_entry_same x 0 t.nodes t.next_inode ordered)) (still_gone (node_at t x)))
+      | inr apart ↦ still_equal (node_at t x) (node_at (without_node y t) x) (lookup-remove_entry_other nat_cmp numbers_tell y x t.nodes (λ same. apart (sym same)))
+    ]
 
 still_if : (test : Bool) (found : Option Node) → Still found (cond test found None)
 still_if true found = still_same found
@@ -139,22 +169,23 @@ stays_walk before now x locked =
       edits = λ e y t fits allowed stays.
           stays_still before x t (change_node y (edited now e) t) stays (order.edits e y t fits allowed stays.ordered) (next_by (edited now e) (node_at t y) y t)
           (edit_stays before now x locked e y t allowed stays);
-      removes = λ y t stays. stays_still before x t _ stays (order.removes y t stays.ordered) (omega arith) (still_removed x 0 (is_at (nat_cmp y)) t.nodes t.next_inode stays.ordered);
+      removes = λ y t stays. stays_still before x t _ stays (order.removes y t stays.ordered) (omega arith) (still_removed x y t stays.ordered);
       makes = λ new t begins fits stays.
-          stays_same before x t _ stays (order.makes new t begins fits stays.ordered) (omega arith) (found_inserted x 0 t.nodes t.next_inode (built now new) stays.ordered stays.fits);
+          stays_same before x t _ stays (order.makes new t begins fits stays.ordered) (omega arith) (lookup-insert_entry_next x 0 t.nodes t.next_inode (built now new) stays.ordered stays.fits);
       opens = λ handle t fits stays. stays_same before x t _ stays stays.ordered (omega arith) refl;
       closes = λ number t stays. stays_same before x t _ stays stays.ordered (omega arith) refl;
       copies = λ source t fits stays.
           let order_of : List ℕ = at_and_below t source in
           stays_same before x t _ stays (order.copies source t fits stays.ordered) (omega arith)
-          (found_before x t.nodes (copies t order_of now order_of) (absent x t.next_inode (copies t order_of now order_of) (t.next_inode + length order_of) (copies_ascend t source now) stays.fits));
+          (lookup-append_before (is_at (nat_cmp x)) t.nodes (copies t order_of now order_of) (lookup_none_below x t.next_inode (copies t order_of now order_of) (t.next_inode + length order_of) (copies_ascend t source now) stays.fits));
       locks = λ y t stays.
           stays_still before x t _ stays (order.locks y t stays.ordered) (omega arith)
-          (locks (at_and_below t y) x t.nodes (locked_on (node_at before x) (node_at t x) stays.still locked));
+          (subst (Still (node_at t x)) (sym (locked_found (at_and_below t y) x t.nodes))
+          (still_locked (is_among (at_and_below t y) x) (node_at t x) (locked_on (node_at before x) (node_at t x) stays.still locked)));
       uproots = λ below t stays.
           let without : Tree = without_directories below t in
           stays_still before x t _ stays (order.uproots below t stays.ordered) (omega arith)
-          (still_left (left_over without below now) (λ e. leaves (is_among below e.0) (lives without e.0 && not (is_directory e.1.content)) now e) x 0 t.nodes t.next_inode stays.ordered);
+          (subst (Still (node_at t x)) (sym (left_over_found below without now x 0 t.nodes t.next_inode stays.ordered)) (still_left below without now x (node_at t x)));
       leaves = λ pass t stays.
           stays_still before x t _ stays (order.leaves pass t stays.ordered) (omega arith) (left_pass (record t { handles = filter (λ h. not (h.1.pass == pass)) t.handles }) x t.nodes);
     }
@@ -178,12 +209,10 @@ guarded_after first x t pass now op guarded =
 
 same_lock : (t : Tree) (inode : ℕ) (node : Node) → node_at t inode ≡ Some node → node.locked ≡ true → (found : Node) → node_at t inode ≡ Some found → found.locked ≡ true
 same_lock t inode node is locked found also =
-    let both_ways : Some node ≡ Some found = sym is ∙ also in
-    let same : node ≡ found = cc both_ways in
-    ap (λ (n : Node). n.locked) (sym same) ∙ locked
+    ap (λ (n : Node). n.locked) (one_some _ found node also is) ∙ locked
 
 pub kept_after : (t : Tree) (calls : List Request) (x : ℕ) (node : Node) → InOrder t → node_at t x ≡ Some node → node.locked ≡ true → IsKept (node_at (tree_after_all t calls) x) node
 kept_after t calls x node ordered is locked =
-    let first : Stays t x t = record { ordered = ordered; fits = present x 0 t.nodes t.next_inode node ordered is; still = still_same (node_at t x) } in
+    let first : Stays t x t = record { ordered = ordered; fits = lookup_below_next x 0 t.nodes t.next_inode node ordered is; still = still_same (node_at t x) } in
     let guarded : Guarded t x (tree_after_all t calls) = kept-tree_after_all (Guarded t x) (guarded_after t x) t calls (record { stays = first; locked = same_lock t x node is locked }) in
     subst (λ found. Still found (node_at (tree_after_all t calls) x)) is guarded.stays.still

@@ -1,14 +1,13 @@
 -- A tree that was locked stays, until a removal.
-use Rattle.std.proofs.Common.{◌≡◌, ◌≢◌, ℕ, zero, suc, List, [], ◌∷◌, Bool, true, false, cond, Option, None, Some, refl, sym, ap, ◌∙◌, inl, inr}
-use Rattle.std.specs.Prelude.{◌==◌, map}
-use Rattle.std.specs.BTreeMap.{is_at}
-use Rattle.std.specs.Map.{lookup}
-use Rattle.std.specs.Ordering.{nat_cmp}
-use Rattle.std.proofs.lemmas.Bool.{cases_eq, eq-eqb}
+use Rattle.std.proofs.Common.{◌≡◌, ◌≢◌, ℕ, zero, suc, List, [], ◌∷◌, true, false, Option, None, Some, refl, sym, ap, ◌∙◌, inl, inr}
+use Rattle.std.proofs.lemmas.Bool.{cases_eq, eq-eqb, false_from_ne_true, both_ways}
+use Rattle.std.specs.Option.{option_map}
+use Rattle.std.specs.Prelude.{◌==◌}
 use Rattle.op_frames.specs.Replay.{Request}
 use Rattle.op_frames.specs.declared.operation.Op.{Op}
 use Rattle.op_frames.specs.declared.operation.Op.TheVariants as ops
 use Rattle.op_frames.specs.declared.reply.Reply.TheVariants as replies
+use Rattle.s3_base.specs.declared.node_kind.Kind.{Kind}
 use Rattle.s3_base.specs.declared.node_kind.Kind.TheVariants as kinds
 use Rattle.plain_tree.specs.Below.{is_among, at_and_below, is_at_or_below}
 use Rattle.plain_tree.specs.Calls.{tree_after_all}
@@ -19,21 +18,20 @@ use Rattle.plain_tree.specs.Subtrees.{with_lock}
 use Rattle.plain_tree.specs.Tree.{Node, Tree, root, made_tree, node_at, stamped}
 use Rattle.plain_tree.proofs.Replies.{reply_at, tree_at}
 use Rattle.tree_laws.specs.LockedTrees.{Spares, AllSpare, SparesTree, AllSpareTree, IsAsBefore, StaysLocked}
-use Rattle.tree_laws.proofs.Shape.Copy.{kind_some, entry_some}
-use Rattle.tree_laws.proofs.Shape.Gain.{inside}
-use Rattle.tree_laws.proofs.Bools.{differ, is_false}
-use Rattle.tree_laws.proofs.Lock.Refusal.{locked_fails}
 use Rattle.tree_laws.proofs.Lock.Entry.{one_stays, all_stay}
-use Rattle.s3_base.specs.declared.node_kind.Kind.{Kind}
-use Rattle.tree_laws.proofs.WellFormed.{reached_sound}
-use Rattle.tree_laws.proofs.Node.Reading.{same_number}
-use Rattle.tree_laws.proofs.Walk.Passed.{all_pass, not_failed, can_uproot}
-use Rattle.tree_laws.proofs.Shape.Words.{Leads, NoneGoes, one_entry}
-use Rattle.tree_laws.proofs.Shape.Operations.{Sound-tree_after}
-use Rattle.tree_laws.proofs.Shape.Steps.{Sound, folder_is}
-use Rattle.tree_laws.proofs.Shape.Subtree.{lock_shape}
-use Rattle.tree_laws.proofs.Shape.Tree.{kind_in, entry_in, shape_of}
+use Rattle.tree_laws.proofs.Lock.Refusal.{locked_fails}
+use Rattle.tree_laws.proofs.Node.Kind.{kind_in, entry_in, kind_some, entry_some, folder_is}
+use Rattle.tree_laws.proofs.Node.Subtree.{lock_within, locked_found}
 use Rattle.tree_laws.proofs.Shape.Below.{below_shape}
+use Rattle.tree_laws.proofs.Shape.Gain.{inside_above}
+use Rattle.tree_laws.proofs.Shape.Operations.{Sound-tree_after}
+use Rattle.tree_laws.proofs.Shape.Steps.{Sound}
+use Rattle.tree_laws.proofs.Shape.Subtree.{shape-with_lock}
+use Rattle.tree_laws.proofs.Shape.Tree.{shape_of}
+use Rattle.tree_laws.proofs.Shape.Words.{Leads, NoneGoes, one_entry}
+use Rattle.tree_laws.proofs.Walk.Calls.{passes_if_done}
+use Rattle.tree_laws.proofs.Walk.Passed.{all_pass, not_failed, can_uproot}
+use Rattle.tree_laws.proofs.WellFormed.{reached_sound}
 
 pub entries_stay : (block_size time : ℕ) (calls more : List Request) (parent inode : ℕ) (name : List ℕ) (node : Node) → node_at (tree_after_all (made_tree block_size time) calls) inode ≡ Some node
     → node.locked ≡ true → entry_at (tree_after_all (made_tree block_size time) calls) parent name ≡ Some inode → AllSpare (tree_after_all (made_tree block_size time) calls) parent name more
@@ -42,42 +40,15 @@ entries_stay block_size time calls more parent inode name node is locked names s
     all_stay (tree_after_all (made_tree block_size time) calls) more parent inode name node
     (record { sound = reached_sound block_size time calls; is = is; locked = locked; names = names }) spare
 
--- ---- the nodes that a lock reaches
-
-locked_if : (below : List ℕ) (x : ℕ) (e : ℕ × Node) (found after : Option Node) (node : Node) (among test : Bool) → is_among below e.0 ≡ among → is_at (nat_cmp x) e.0 ≡ test → is_among below x ≡ true
-    → (found ≡ Some node → after ≡ Some (record node { locked = true })) → cond test (Some e.1) found ≡ Some node
-    → cond (is_at (nat_cmp x) (cond among (e.0, record e.1 { locked = true }) e).0) (Some (cond among (e.0, record e.1 { locked = true }) e).1) after ≡ Some (record node { locked = true })
-locked_if below x e found after node true true is here within later names =
-    let same : e.1 ≡ node = cc names in
-    ap (λ b. cond b (Some (record e.1 { locked = true })) after) here ∙ ap (λ (k : Node). Some (record k { locked = true })) same
-locked_if below x e found after node false true is here within later names =
-    let both_ways : true ≡ false = sym within ∙ ap (is_among below) (same_number x e.0 here) ∙ is in
-    absurd (cc both_ways)
-locked_if below x e found after node true false is here within later names = ap (λ b. cond b (Some (record e.1 { locked = true })) after) here ∙ later names
-locked_if below x e found after node false false is here within later names = ap (λ b. cond b (Some e.1) after) here ∙ later names
-
-locked_found : (below : List ℕ) (x : ℕ) (es : List (ℕ × Node)) (node : Node) → is_among below x ≡ true → lookup (is_at (nat_cmp x)) es ≡ Some node
-    → lookup (is_at (nat_cmp x)) (map (λ e. cond (is_among below e.0) (e.0, record e.1 { locked = true }) e) es) ≡ Some (record node { locked = true })
-locked_found below x [] node within is = absurd (cc is)
-locked_found below x (e ∷ es) node within is =
-    locked_if below x e (lookup (is_at (nat_cmp x)) es) _ node (is_among below e.0) (is_at (nat_cmp x) e.0) refl refl within (locked_found below x es node within) is
-
 -- ---- every inode that a lock reaches has a name
 
 named_way : (t : Tree) (steps x : ℕ) → x ≢ root → Leads (entry_at t) steps x → (p : ℕ) × (n : List ℕ) × (entry_at t p n ≡ Some x)
 named_way t zero x inner leads = absurd (inner leads)
 named_way t (suc steps) x inner leads = (leads.0, leads.1, leads.2)
 
-passes_if : (t : Tree) (pass now : ℕ) (op : Op) (failure : Option ℕ) → first_failure (checks t pass op) ≡ failure → reply_to t pass op now ≡ replies.Done → failure ≡ None
-passes_if t pass now op None is done = refl
-passes_if t pass now op (Some errno) is done =
-    let both_ways : replies.Errno (record { 0 = errno }) ≡ replies.Done = sym (reply_at t pass now op (Some errno) is) ∙ done in
-    absurd (cc both_ways)
-
 not_root : (x : ℕ) → root_check x ≡ None → x ≢ root
 not_root x passes same =
-    let both_ways : true ≡ false = sym (eq-eqb x root same) ∙ not_failed 1 (x == root) passes in
-    cc both_ways
+    both_ways _ (not_failed 1 (x == root) passes) (eq-eqb x root same)
 
 -- ---- a tree in which all at and below a directory is locked and as it was
 
@@ -106,7 +77,7 @@ apart_from : (t : Tree) (top q : ℕ) (m : List ℕ) (later : Tree) → Sound t 
     → is_at_or_below t top p ≡ true → is_at_or_below later r p ≡ true → ⊥
 apart_from t top q m later sound keeps pass from by passes r is out zero p leads folder within removed =
     elim (cases_eq p top) [
-      | inl same ↦ differ (is_at_or_below later r top) (ap (is_at_or_below later r) (sym same) ∙ removed) out
+      | inl same ↦ both_ways (is_at_or_below later r top) out (ap (is_at_or_below later r) (sym same) ∙ removed)
       | inr apart ↦ elim ((below_shape t sound.names top).up p within) [
         | inl same ↦ apart same
         | inr above ↦ sound.grown.top above.0 above.1 (above.3 ∙ ap Some leads)
@@ -114,7 +85,7 @@ apart_from t top q m later sound keeps pass from by passes r is out zero p leads
     ]
 apart_from t top q m later sound keeps pass from by passes r is out (suc steps) p leads folder within removed =
     elim (cases_eq p top) [
-      | inl same ↦ differ (is_at_or_below later r top) (ap (is_at_or_below later r) (sym same) ∙ removed) out
+      | inl same ↦ both_ways (is_at_or_below later r top) out (ap (is_at_or_below later r) (sym same) ∙ removed)
       | inr apart ↦ elim ((below_shape t sound.names top).up p within) [
         | inl same ↦ apart same
         | inr above ↦
@@ -126,7 +97,7 @@ apart_from t top q m later sound keeps pass from by passes r is out (suc steps) 
               | inr differs ↦
                   apart_from t top q m later sound keeps pass from by passes r is out steps leads.0 leads.3 (keeps.sound.grown.holds leads.0 p leads.1 leads.2)
                   (ap (is_at_or_below t top) (keeps.sound.grown.once above.0 leads.0 p above.1 leads.1 folder named leads.2).0 ∙ above.2)
-                  (inside NoneGoes (shape_of later) r (is_among (at_and_below later r)) (below_shape later keeps.sound.names r) keeps.sound.grown leads.0 p leads.1 differs folder removed leads.2)
+                  (inside_above NoneGoes (shape_of later) r (is_among (at_and_below later r)) (below_shape later keeps.sound.names r) keeps.sound.grown leads.0 p leads.1 differs folder removed leads.2)
             ]
       ]
     ]
@@ -137,17 +108,17 @@ spares_inside t top q m later sound keeps pass (ops.RemoveTree from by) spares p
     let folder : kind_in (node_at later p) ≡ Some kinds.Directory = keeps.sound.grown.holds p x n (entry_later t top q m later keeps p x n within names) in
     let way = keeps.sound.grown.leads p (λ no. no) folder in
     λ r done is. (
-      is_false (is_at_or_below later r p) (λ removed. apart_from t top q m later sound keeps pass from by passes r is (spares r refl is) way.0 p way.1 folder within removed),
+      false_from_ne_true (is_at_or_below later r p) (λ removed. apart_from t top q m later sound keeps pass from by passes r is (spares r refl is) way.0 p way.1 folder within removed),
       λ place. refused_there t top q m later keeps pass from by passes p x n within names (sym place.0),
     )
 spares_inside t top q m later sound keeps pass op spares p x n within names passes = _
 
 spares_first : (t : Tree) (top q : ℕ) (m : List ℕ) (later : Tree) → Kept t top q m later → (op : Op) → SparesTree later top op replies.Done → Spares later q m op replies.Done
 spares_first t top q m later keeps (ops.RemoveTree from by) spares = λ r done is. (
-  is_false (is_at_or_below later r q) (λ removed. differ (is_at_or_below later r top) ((below_shape later keeps.sound.names r).down q top m removed keeps.name) (spares r refl is)),
+  false_from_ne_true (is_at_or_below later r q) (λ removed. both_ways (is_at_or_below later r top) (spares r refl is) ((below_shape later keeps.sound.names r).down q top m removed keeps.name)),
   λ place.
-      differ (is_at_or_below later r top)
-      (ap (is_at_or_below later r) (one_entry (entry_at later) from by q m r top place is keeps.name) ∙ (below_shape later keeps.sound.names r).itself) (spares r refl is),
+      both_ways (is_at_or_below later r top) (spares r refl is)
+      (ap (is_at_or_below later r) (one_entry (entry_at later) from by q m r top place is keeps.name) ∙ (below_shape later keeps.sound.names r).itself),
 )
 spares_first t top q m later keeps op spares = _
 
@@ -204,7 +175,7 @@ locked_by : (t : Tree) → Sound t → (more : List Request) (pass now top : ℕ
     → StaysLocked top t (tree_after_all (tree_after t pass (ops.LockTree top) now) more)
 locked_by t sound more pass now top done spare =
     let op : Op = ops.LockTree top in
-    let passes : first_failure (checks t pass op) ≡ None = passes_if t pass now op (first_failure (checks t pass op)) refl done in
+    let passes : first_failure (checks t pass op) ≡ None = passes_if_done t pass now op done in
     let all = all_pass (checks t pass op) passes in
     let folder : kind_in (node_at t top) ≡ Some kinds.Directory = folder_is (node_at t top) all.0 all.1.0 in
     let next : Tree = tree_after t pass op now in
@@ -215,8 +186,12 @@ locked_by t sound more pass now top done spare =
     kept_all t top q m next more sound folder
     (record {
       sound = Sound-tree_after t pass now op sound;
-      nodes = λ x node within is. (node.ctime, ap (λ (a : Tree). node_at a x) next_is ∙ locked_found (at_and_below t top) x t.nodes node within is);
-      name = ap (λ (a : Tree). entry_at a q m) next_is ∙ (lock_shape top t).entry q m ∙ names;
+      nodes = λ x node within is. (
+        node.ctime,
+        ap (λ (a : Tree). node_at a x) next_is ∙ locked_found (at_and_below t top) x t.nodes
+            ∙ ap (λ found. option_map (lock_within (is_among (at_and_below t top) x)) found) is ∙ ap (λ b. Some (lock_within b node)) within,
+      );
+      name = ap (λ (a : Tree). entry_at a q m) next_is ∙ (shape-with_lock top t).entry q m ∙ names;
     })
     spare in
     let way = sound.grown.leads top (λ no. no) folder in

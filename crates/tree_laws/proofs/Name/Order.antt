@@ -1,46 +1,30 @@
 -- What each operation does to the order of names.
 use Rattle.std.proofs.Common.{◌≡◌, ℕ, List, [], ◌∷◌, Bool, Some, sym, subst}
+use Rattle.std.proofs.lemmas.Map.Made.{keys_of-map_values}
 use Rattle.std.specs.BTreeMap.{is_at}
 use Rattle.std.specs.Cmp.Lexicographic.{slice_cmp}
 use Rattle.std.specs.List.{filter}
 use Rattle.std.specs.Map.{keys_of, values_of, lookup}
 use Rattle.std.specs.Ordering.{nat_cmp}
-use Rattle.std.proofs.lemmas.Map.Made.{keys_of-map_values}
 use Rattle.op_frames.specs.declared.operation.Op.{Op}
-use Rattle.plain_tree.specs.Entries.{settled, entries_of, add_entry, drop_entry, unnamed}
-use Rattle.plain_tree.specs.Files.{with_bytes, written_at, resized}
+use Rattle.plain_tree.specs.Entries.{settled, entries_of, add_entry, drop_entry}
 use Rattle.plain_tree.specs.Names.{Rise, NamesRise, NamesInOrder, AttributesRise, AttributesInOrder}
 use Rattle.plain_tree.specs.Operations.{tree_after}
-use Rattle.plain_tree.specs.Subtrees.{copied_content, copy_number}
 use Rattle.plain_tree.specs.Tree.{Content, Regular, Directory, Link, Node, Tree, change_node, named, stamped}
-use Rattle.tree_laws.proofs.Name.Rise.{rise-insert, rise-remove}
-use Rattle.tree_laws.proofs.Node.Each.{Each, Changes, Keeps, each-found, each-filter, each-change_node, each-settled, each-tree_after}
-use Rattle.tree_laws.proofs.Walk.Edits.{Edit, Resize, Write, Attribute, NoAttribute, Entry, NoEntry, edited, Fits, NewNode, File, Folder, Symlink, built}
+use Rattle.tree_laws.proofs.Name.Rise.{Rise-insert_entry, Rise-remove_entry}
+use Rattle.tree_laws.proofs.Node.Each.{KeepsEntries, entries-edited, keeps_by_entries, Each, Changes, Keeps, each-found, each-filter, each-change_node, each-settled, each-tree_after}
+use Rattle.tree_laws.proofs.Walk.Edits.{Edit, Attribute, NoAttribute, NoEntry, edited, Fits, NewNode, File, Folder, Symlink, built}
 
 abbrev HasNamesInOrder : Node → Type 0
 HasNamesInOrder node = Rise (keys_of (entries_of node.content))
 
--- ---- contents
-
-rise-named : (name : List ℕ) (inode : ℕ) (content : Content) → Rise (keys_of (entries_of content)) → Rise (keys_of (entries_of (named name inode content)))
-rise-named name inode (Directory entries) rise = rise-insert entries name inode rise
-rise-named name inode (Regular bytes) rise = rise
-rise-named name inode (Link target) rise = rise
-
-rise-unnamed : (name : List ℕ) (content : Content) → Rise (keys_of (entries_of content)) → Rise (keys_of (entries_of (unnamed name content)))
-rise-unnamed name (Directory entries) rise = rise-remove (is_at (slice_cmp nat_cmp name)) entries rise
-rise-unnamed name (Regular bytes) rise = rise
-rise-unnamed name (Link target) rise = rise
-
-rise-bytes : (f : List ℕ → List ℕ) (content : Content) → Rise (keys_of (entries_of content)) → Rise (keys_of (entries_of (with_bytes f content)))
-rise-bytes f (Regular bytes) rise = rise
-rise-bytes f (Directory entries) rise = rise
-rise-bytes f (Link target) rise = rise
-
-rise-copied : (next : ℕ) (order : List ℕ) (content : Content) → Rise (keys_of (entries_of content)) → Rise (keys_of (entries_of (copied_content next order content)))
-rise-copied next order (Directory entries) rise = subst Rise (sym (keys_of-map_values (copy_number next order) entries)) rise
-rise-copied next order (Regular bytes) rise = rise
-rise-copied next order (Link target) rise = rise
+keeps_names : KeepsEntries (λ es. Rise (keys_of es))
+keeps_names = record {
+  none = _;
+  inserts = λ name inode es legal rise. Rise-insert_entry es name inode rise;
+  removes = λ name es rise. Rise-remove_entry (is_at (slice_cmp nat_cmp name)) es rise;
+  renumbers = λ f es rise. subst Rise (sym (keys_of-map_values f es)) rise;
+}
 
 -- ---- lists of nodes
 
@@ -58,6 +42,11 @@ rise-found test es node rise is = each-found HasNamesInOrder test es node (each_
 pub NamesRise-filter : (test : ℕ × Node → Bool) (es : List (ℕ × Node)) → NamesRise (values_of es) → NamesRise (values_of (filter test es))
 NamesRise-filter test es rise = rise_from_each (filter test es) (each-filter HasNamesInOrder test es (each_from_rise es rise))
 
+rise-named : (name : List ℕ) (inode : ℕ) (content : Content) → Rise (keys_of (entries_of content)) → Rise (keys_of (entries_of (named name inode content)))
+rise-named name inode (Directory entries) rise = Rise-insert_entry entries name inode rise
+rise-named name inode (Regular bytes) rise = rise
+rise-named name inode (Link target) rise = rise
+
 -- ---- changes of a tree
 
 change : (f : Node → Node) → Changes HasNamesInOrder f → (inode : ℕ) (t : Tree) → NamesInOrder t → NamesInOrder (change_node inode f t)
@@ -67,7 +56,7 @@ pub NamesInOrder-add_entry : (parent : ℕ) (name : List ℕ) (inode now : ℕ) 
 NamesInOrder-add_entry parent name inode now t rise = change _ (λ node sound. rise-named name inode node.content sound) parent t rise
 
 pub NamesInOrder-drop_entry : (parent : ℕ) (name : List ℕ) (now : ℕ) (t : Tree) → NamesInOrder t → NamesInOrder (drop_entry parent name now t)
-NamesInOrder-drop_entry parent name now t rise = change _ (λ node sound. rise-unnamed name node.content sound) parent t rise
+NamesInOrder-drop_entry parent name now t rise = change (edited now (NoEntry name)) (entries-edited (λ es. Rise (keys_of es)) keeps_names now (NoEntry name) _) parent t rise
 
 pub NamesInOrder-stamped : (now inode : ℕ) (t : Tree) → NamesInOrder t → NamesInOrder (change_node inode (stamped now) t)
 NamesInOrder-stamped now inode t rise = change (stamped now) (λ node sound. sound) inode t rise
@@ -77,28 +66,8 @@ NamesInOrder-settled inode t rise = rise_from_each (settled inode t).nodes (each
 
 -- ---- the operations
 
-edit_keeps_names : (now : ℕ) (e : Edit) → Fits e → Changes HasNamesInOrder (edited now e)
-edit_keeps_names now (Resize size) fits node rise = rise-bytes (resized size) node.content rise
-edit_keeps_names now (Write offset bytes) fits node rise = rise-bytes (written_at offset bytes) node.content rise
-edit_keeps_names now (Entry name inode) fits node rise = rise-named name inode node.content rise
-edit_keeps_names now (NoEntry name) fits node rise = rise-unnamed name node.content rise
-edit_keeps_names now e fits node rise = rise
-
-new_has_names : (now : ℕ) (new : NewNode) → HasNamesInOrder (built now new)
-new_has_names now (File mode uid gid) = _
-new_has_names now (Folder mode uid gid) = _
-new_has_names now (Symlink target uid gid) = _
-
-keeps_names : (now : ℕ) → Keeps now HasNamesInOrder
-keeps_names now = record {
-  edits = edit_keeps_names now;
-  makes = λ new begins. new_has_names now new;
-  locks = λ node rise. rise;
-  copies = λ next order node rise. rise-copied next order node.content rise;
-}
-
 pub NamesInOrder-tree_after : (t : Tree) (pass now : ℕ) (op : Op) → NamesInOrder t → NamesInOrder (tree_after t pass op now)
-NamesInOrder-tree_after t pass now op rise = rise_from_each (tree_after t pass op now).nodes (each-tree_after HasNamesInOrder now (keeps_names now) t pass op (each_from_rise t.nodes rise))
+NamesInOrder-tree_after t pass now op rise = rise_from_each (tree_after t pass op now).nodes (each-tree_after HasNamesInOrder now (keeps_by_entries (λ es. Rise (keys_of es)) keeps_names now) t pass op (each_from_rise t.nodes rise))
 
 -- ---- attributes
 
@@ -114,8 +83,8 @@ attributes_from_each [] each = _
 attributes_from_each (e ∷ es) each = (each.0, attributes_from_each es each.1)
 
 edit_keeps_attributes : (now : ℕ) (e : Edit) → Fits e → Changes HasAttributesInOrder (edited now e)
-edit_keeps_attributes now (Attribute name value) fits node rise = rise-insert node.attributes name value rise
-edit_keeps_attributes now (NoAttribute name) fits node rise = rise-remove (is_at (slice_cmp nat_cmp name)) node.attributes rise
+edit_keeps_attributes now (Attribute name value) fits node rise = Rise-insert_entry node.attributes name value rise
+edit_keeps_attributes now (NoAttribute name) fits node rise = Rise-remove_entry (is_at (slice_cmp nat_cmp name)) node.attributes rise
 edit_keeps_attributes now e fits node rise = rise
 
 new_has_attributes : (now : ℕ) (new : NewNode) → HasAttributesInOrder (built now new)

@@ -39,9 +39,9 @@ insert_first e es inserted name v Less is rise rest = (is, rise)
 insert_first e es inserted name v Equal is rise rest = rise
 insert_first e es inserted name v Greater is rise rest = rest (flipped name e.0 is)
 
-pub rise-insert : {X : Type 0} (es : List (List ℕ × X)) (name : List ℕ) (v : X) → Rise (keys_of es) → Rise (keys_of (insert_entry compare es name v))
-rise-insert [] name v rise = _
-rise-insert (e ∷ es) name v rise = insert_first e es (insert_entry compare es name v) name v (compare name e.0) refl rise (λ after. insert_from e.0 es name v after rise)
+pub Rise-insert_entry : {X : Type 0} (es : List (List ℕ × X)) (name : List ℕ) (v : X) → Rise (keys_of es) → Rise (keys_of (insert_entry compare es name v))
+Rise-insert_entry [] name v rise = _
+Rise-insert_entry (e ∷ es) name v rise = insert_first e es (insert_entry compare es name v) name v (compare name e.0) refl rise (λ after. insert_from e.0 es name v after rise)
 
 -- ---- one name less
 
@@ -54,14 +54,14 @@ remove_from : {X : Type 0} (low : List ℕ) (test : List ℕ → Bool) (es : Lis
 remove_from low test [] rise = rise
 remove_from low test (e ∷ es) rise = remove_case low (test e.0) e es (remove_entry test es) rise.0 rise.1 (remove_from e.0 test es rise.1)
 
-from_any : (low : List ℕ) (names : List (List ℕ)) → RiseFrom low names → Rise names
-from_any low [] rise = _
-from_any low (name ∷ names) rise = rise.1
+pub Rise-tail : (low : List ℕ) (names : List (List ℕ)) → RiseFrom low names → Rise names
+Rise-tail low [] rise = _
+Rise-tail low (name ∷ names) rise = rise.1
 
 remove_first : {X : Type 0} (test : Bool) (e : List ℕ × X) (es others : List (List ℕ × X)) → RiseFrom e.0 (keys_of es) → RiseFrom e.0 (keys_of others) → Rise (keys_of (cond test es (e ∷ others)))
-remove_first true e es others rise rest = from_any e.0 (keys_of es) rise
+remove_first true e es others rise rest = Rise-tail e.0 (keys_of es) rise
 remove_first false e es others rise rest = rest
 
-pub rise-remove : {X : Type 0} (test : List ℕ → Bool) (es : List (List ℕ × X)) → Rise (keys_of es) → Rise (keys_of (remove_entry test es))
-rise-remove test [] rise = rise
-rise-remove test (e ∷ es) rise = remove_first (test e.0) e es (remove_entry test es) rise (remove_from e.0 test es rise)
+pub Rise-remove_entry : {X : Type 0} (test : List ℕ → Bool) (es : List (List ℕ × X)) → Rise (keys_of es) → Rise (keys_of (remove_entry test es))
+Rise-remove_entry test [] rise = rise
+Rise-remove_entry test (e ∷ es) rise = remove_first (test e.0) e es (remove_entry test es) rise (remove_from e.0 test es rise)

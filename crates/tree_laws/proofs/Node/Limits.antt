@@ -1,13 +1,10 @@
 -- Lengths, targets, attributes, modes and times stay within their rules, and so do the numbers that come next.
-use Rattle.std.proofs.Common.{◌≡◌, ◌≤◌, ◌<◌, ℕ, ◌+◌, ◌^◌, List, [], ◌∷◌, ◌++◌, Bool, true, false, cond, Option, None, Some, arith, length-drop}
-use Rattle.std.specs.Prelude.{◌-◌, length, take, drop}
-use Rattle.std.specs.BTreeMap.{is_at, insert_entry}
-use Rattle.std.specs.Cmp.Lexicographic.{slice_cmp}
-use Rattle.std.specs.Map.{remove_entry}
-use Rattle.std.specs.Ordering.{nat_cmp, match_ordering}
-use Rattle.std.specs.declared.cmp.Ordering.{Ordering}
-use Rattle.std.specs.declared.cmp.Ordering.TheVariants.{Less, Equal, Greater}
+use Rattle.std.proofs.Common.{◌≡◌, ◌≤◌, ◌<◌, ℕ, ◌+◌, ◌^◌, List, [], ◌∷◌, ◌++◌, Option, None, Some, arith, length-drop}
 use Rattle.std.proofs.lemmas.List.{length-append, length-take-le}
+use Rattle.std.specs.BTreeMap.{is_at}
+use Rattle.std.specs.Cmp.Lexicographic.{slice_cmp}
+use Rattle.std.specs.Ordering.{nat_cmp}
+use Rattle.std.specs.Prelude.{◌-◌, length, take, drop}
 use Rattle.op_frames.specs.declared.operation.Op.{Op}
 use Rattle.plain_tree.specs.Checks.{attribute_name_check, value_check}
 use Rattle.plain_tree.specs.Entries.{unnamed}
@@ -17,13 +14,16 @@ use Rattle.plain_tree.specs.Subtrees.{copied_content}
 use Rattle.plain_tree.specs.Tree.{Content, Regular, Directory, Link, Node, Tree, node_at, changed_by, named}
 use Rattle.plain_tree.specs.WellFormed.{IsWithinLimits, AreAttributes, AreWithinLimits, IsWithinRules, HaveModes, AreTimes, HasTimes}
 use Rattle.tree_laws.proofs.File.Bytes.{length-resized, le-padded}
-use Rattle.tree_laws.proofs.Node.Each.{Each, Changes, Keeps, each-tree_after}
+use Rattle.tree_laws.proofs.Node.Each.{EachEntry, each-insert_entry, each-remove_entry, Each, Changes, Keeps, each-tree_after}
 use Rattle.tree_laws.proofs.Walk.Calls.{walk-tree_after}
 use Rattle.tree_laws.proofs.Walk.Edits.{Edit, Mode, Mtime, Resize, Write, Attribute, NoAttribute, Entry, NoEntry, edited, Fits, NewNode, File, Folder, Symlink, built, Begins}
 use Rattle.tree_laws.proofs.Walk.Operations.{Walk}
 
+abbrev IsAttribute : List ℕ → List ℕ → Type 0
+IsAttribute name value = (attribute_name_check name ≡ None) × (value_check value ≡ None)
+
 abbrev Limited : Node → Type 0
-Limited node = IsWithinLimits node.content × AreAttributes node.attributes
+Limited node = IsWithinLimits node.content × EachEntry IsAttribute node.attributes
 
 -- ---- contents
 
@@ -59,25 +59,13 @@ length-written most offset text old ends fits =
 
 -- ---- attributes
 
-attributes-match : (order : Ordering) (a b c : List (List ℕ × List ℕ)) → AreAttributes a → AreAttributes b → AreAttributes c → AreAttributes (match_ordering order a b c)
-attributes-match Less a b c first second third = first
-attributes-match Equal a b c first second third = second
-attributes-match Greater a b c first second third = third
+each_from_attributes : (attributes : List (List ℕ × List ℕ)) → AreAttributes attributes → EachEntry IsAttribute attributes
+each_from_attributes [] are = _
+each_from_attributes (a ∷ attributes) are = ((are.0, are.1), each_from_attributes attributes are.2)
 
-attributes-insert : (name value : List ℕ) → attribute_name_check name ≡ None → value_check value ≡ None → (attributes : List (List ℕ × List ℕ)) → AreAttributes attributes
-    → AreAttributes (insert_entry (slice_cmp nat_cmp) attributes name value)
-attributes-insert name value legal small [] are = (legal, small, _)
-attributes-insert name value legal small (a ∷ attributes) are =
-    attributes-match (slice_cmp nat_cmp name a.0) ((name, value) ∷ a ∷ attributes) ((a.0, value) ∷ attributes) (a ∷ insert_entry (slice_cmp nat_cmp) attributes name value)
-    (legal, small, are) (are.0, small, are.2) (are.0, are.1, attributes-insert name value legal small attributes are.2)
-
-attributes-cond : (test : Bool) (a b : List (List ℕ × List ℕ)) → AreAttributes a → AreAttributes b → AreAttributes (cond test a b)
-attributes-cond true a b first second = first
-attributes-cond false a b first second = second
-
-attributes-remove : (test : List ℕ → Bool) (attributes : List (List ℕ × List ℕ)) → AreAttributes attributes → AreAttributes (remove_entry test attributes)
-attributes-remove test [] are = are
-attributes-remove test (a ∷ attributes) are = attributes-cond (test a.0) attributes (a ∷ remove_entry test attributes) are.2 (are.0, are.1, attributes-remove test attributes are.2)
+attributes_from_each : (attributes : List (List ℕ × List ℕ)) → EachEntry IsAttribute attributes → AreAttributes attributes
+attributes_from_each [] each = _
+attributes_from_each (a ∷ attributes) each = (each.0.0, each.0.1, attributes_from_each attributes each.1)
 
 -- ---- nodes
 
@@ -85,8 +73,8 @@ edit_keeps_limits : (now : ℕ) (e : Edit) → Fits e → Changes Limited (edite
 edit_keeps_limits now (Resize size) fits node within = (limit-bytes (resized size) (λ bytes old. omega (arith, length-resized size bytes, fits)) node.content within.0, within.1)
 edit_keeps_limits now (Write offset bytes) fits node within =
     (limit-bytes (written_at offset bytes) (λ old short. length-written (2 ^ 50) offset bytes old fits short) node.content within.0, within.1)
-edit_keeps_limits now (Attribute name value) fits node within = (within.0, attributes-insert name value fits.0 fits.1 node.attributes within.1)
-edit_keeps_limits now (NoAttribute name) fits node within = (within.0, attributes-remove (is_at (slice_cmp nat_cmp name)) node.attributes within.1)
+edit_keeps_limits now (Attribute name value) fits node within = (within.0, each-insert_entry IsAttribute (slice_cmp nat_cmp) name value fits (λ other old are. (are.0, fits.1)) node.attributes within.1)
+edit_keeps_limits now (NoAttribute name) fits node within = (within.0, each-remove_entry IsAttribute (is_at (slice_cmp nat_cmp name)) node.attributes within.1)
 edit_keeps_limits now (Entry name inode) fits node within = (limit-named name inode node.content within.0, within.1)
 edit_keeps_limits now (NoEntry name) fits node within = (limit-unnamed name node.content within.0, within.1)
 edit_keeps_limits now e fits node within = within
@@ -106,11 +94,11 @@ keeps_limits now = record {
 
 each_from_limits : (es : List (ℕ × Node)) → AreWithinLimits es → Each Limited es
 each_from_limits [] within = _
-each_from_limits (e ∷ es) within = ((within.0, within.1), each_from_limits es within.2)
+each_from_limits (e ∷ es) within = ((within.0, each_from_attributes e.1.attributes within.1), each_from_limits es within.2)
 
 limits_from_each : (es : List (ℕ × Node)) → Each Limited es → AreWithinLimits es
 limits_from_each [] each = _
-limits_from_each (e ∷ es) each = (each.0.0, each.0.1, limits_from_each es each.1)
+limits_from_each (e ∷ es) each = (each.0.0, attributes_from_each e.1.attributes each.0.1, limits_from_each es each.1)
 
 -- ---- modes
 

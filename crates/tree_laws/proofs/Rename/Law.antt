@@ -1,28 +1,29 @@
 -- Renames in one tree of names, and in the trees that calls lead to.
 use Rattle.std.proofs.Common.{◌≡◌, ◌≢◌, ℕ, zero, suc, List, Some, refl, sym, ap, ◌∙◌, subst}
+use Rattle.op_frames.specs.Replay.{Request}
 use Rattle.op_frames.specs.declared.operation.Op.TheVariants as ops
 use Rattle.op_frames.specs.declared.reply.Reply.TheVariants as replies
-use Rattle.op_frames.specs.Replay.{Request}
 use Rattle.plain_tree.specs.Calls.{tree_after_all}
 use Rattle.plain_tree.specs.Entries.{entry_at}
+use Rattle.plain_tree.specs.Names.{NamesInOrder}
+use Rattle.plain_tree.specs.Numbers.{InOrder}
 use Rattle.plain_tree.specs.Operations.{reply_to, tree_after, HandlesBelow}
 use Rattle.plain_tree.specs.Tree.{Tree, made_tree, node_at}
 use Rattle.plain_tree.specs.WellFormed.{IsWellFormed, HasOneTree, HasNoOrphans}
-use Rattle.plain_tree.specs.Names.{NamesInOrder}
-use Rattle.plain_tree.specs.Numbers.{InOrder}
 use Rattle.tree_laws.specs.Renames.{IsRenamed}
-use Rattle.tree_laws.proofs.WellFormed.{IsWellFormed-tree_after, reached_well_formed}
-use Rattle.tree_laws.proofs.Rename.Entry.{IsPlain, renamed_done}
-use Rattle.tree_laws.proofs.Shape.Definition.{holds_kind, root_unnamed, one_place, way_up, grown_of, tree_of}
-use Rattle.tree_laws.proofs.Shape.Words.{Leads}
-use Rattle.tree_laws.proofs.Shape.Operations.{Sound-tree_after}
 use Rattle.tree_laws.proofs.Name.Legal.{NamesAreLegal-tree_after}
+use Rattle.tree_laws.proofs.Node.Kind.{holds_kind}
+use Rattle.tree_laws.proofs.Rename.Entry.{IsPlain, renamed_done}
+use Rattle.tree_laws.proofs.Shape.Definition.{root_unnamed, named_at_one_place, way_up, grown_of, tree_of}
+use Rattle.tree_laws.proofs.Shape.Operations.{Sound-tree_after}
+use Rattle.tree_laws.proofs.Shape.Words.{Leads}
+use Rattle.tree_laws.proofs.WellFormed.{IsWellFormed-tree_after, reached_well_formed}
 
 -- the way up from a directory that has itself never ends
 no_way_up : (t : Tree) → HasOneTree t → (q : ℕ) (m : List ℕ) → entry_at t q m ≡ Some q → (steps y : ℕ) → y ≡ q → Leads (entry_at t) steps y → ⊥
 no_way_up t tree q m names zero y same leads = root_unnamed t tree q m (names ∙ ap Some (sym same ∙ leads))
 no_way_up t tree q m names (suc steps) y same leads =
-    let up : leads.0 ≡ q = (one_place t tree q leads.0 q m leads.1 (holds_kind (node_at t q) m q names) names (leads.2 ∙ ap Some same)).0 in
+    let up : leads.0 ≡ q = (named_at_one_place t tree q leads.0 q m leads.1 (holds_kind (node_at t q) m q names) names (leads.2 ∙ ap Some same)).0 in
     no_way_up t tree q m names steps leads.0 up leads.3
 
 not_own : (t : Tree) → HasOneTree t → (p x : ℕ) (n : List ℕ) → entry_at t p n ≡ Some x → x ≢ p

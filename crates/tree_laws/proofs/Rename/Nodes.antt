@@ -1,23 +1,25 @@
 -- The nodes and entries of a tree in which an entry has moved.
 use Rattle.std.proofs.Common.{◌≡◌, ◌≢◌, ℕ, List, Bool, true, false, cond, Option, None, Some, IsSome, refl, sym, ap, ◌∙◌, ◌⊎◌, inl, inr, subst}
-use Rattle.std.specs.Prelude.{◌==◌, ◌||◌}
-use Rattle.std.proofs.lemmas.Bool.{cases_eq, ne_eqb}
+use Rattle.std.proofs.lemmas.Bool.{false_from_ne_true, or_from, cases_eq, ne_eqb}
 use Rattle.std.specs.Option.{option_map}
+use Rattle.std.specs.Ordering.{nat_cmp}
+use Rattle.std.specs.Prelude.{◌==◌, ◌||◌}
 use Rattle.s3_base.specs.declared.node_kind.Kind.TheVariants as kinds
-use Rattle.plain_tree.specs.Attributes.{kind_of}
 use Rattle.plain_tree.specs.Entries.{entry_at, is_named, is_open, lives, settled, add_entry, drop_entry, unnamed}
-use Rattle.plain_tree.specs.Tree.{Content, Regular, Directory, Link, Node, Tree, root, node_at, change_node, changed_by, without_node, named, touched, stamped}
 use Rattle.plain_tree.specs.Names.{NamesInOrder}
 use Rattle.plain_tree.specs.Numbers.{InOrder}
+use Rattle.plain_tree.specs.Tree.{Content, Directory, Node, Tree, root, node_at, change_node, changed_by, without_node, named, touched, stamped}
 use Rattle.tree_laws.specs.Renames.{IsStamped, IsTouched}
+use Rattle.tree_laws.proofs.Name.Order.{NamesInOrder-settled, NamesInOrder-add_entry, NamesInOrder-drop_entry, NamesInOrder-stamped}
+use Rattle.tree_laws.proofs.Node.Keys.{numbers_tell, lookup-remove_entry_other}
+use Rattle.tree_laws.proofs.Node.Kind.{kind_in, entry_in, none_some, kind_some, folder_entries}
+use Rattle.tree_laws.proofs.Node.Order.{InOrder-change_node, InOrder-without_node}
+use Rattle.tree_laws.proofs.Node.Reading.{lookup-remove_entry_same, node_at-change_node_same, node_at-change_node_other}
 use Rattle.tree_laws.proofs.Shape.Gain.{Moves}
-use Rattle.tree_laws.proofs.Shape.Loss.{Unlinks, Removes, none_some}
-use Rattle.std.specs.Ordering.{nat_cmp}
-use Rattle.tree_laws.proofs.Name.Reading.{numbers_tell, removed_there, number_removed}
-use Rattle.tree_laws.proofs.Name.Order as names_by
-use Rattle.tree_laws.proofs.Node.Order as numbers_by
+use Rattle.tree_laws.proofs.Shape.Loss.{Unlinks, Removes}
+use Rattle.tree_laws.proofs.Shape.Named.{dead_is, not_named}
+use Rattle.tree_laws.proofs.Shape.Tree.{shape_of, shape-change_node, shape-drop_entry, Links, shape-add_entry, shape-without_node}
 use Rattle.tree_laws.proofs.Shape.Words.{IsUnnamed, IsPlace, Same}
-use Rattle.tree_laws.proofs.Shape.Tree.{kind_in, entry_in, shape_of, same_shape, drop_shape, Links, add_shape, remove_shape, changed_here, changed_there, dead_is, not_named}
 
 -- ---- what a change of one node leaves
 
@@ -51,31 +53,21 @@ edited now g node = touched now (record node { content = g node.content })
 abbrev KeepsFolders : (Content → Content) → Type 0
 KeepsFolders g = (old : List (List ℕ × ℕ)) → (new : List (List ℕ × ℕ)) × (g (Directory old) ≡ Directory new)
 
-folder_content : (content : Content) → kind_of content ≡ kinds.Directory → (entries : List (List ℕ × ℕ)) × (content ≡ Directory entries)
-folder_content (Directory entries) is = (entries, refl)
-folder_content (Regular bytes) is = absurd (cc is)
-folder_content (Link target) is = absurd (cc is)
-
-pub folder_node : (found : Option Node) → kind_in found ≡ Some kinds.Directory → (node : Node) × (found ≡ Some node) × ((entries : List (List ℕ × ℕ)) × (node.content ≡ Directory entries))
-folder_node None is = absurd (cc is)
-folder_node (Some node) is =
-    let kind : kind_of node.content ≡ kinds.Directory = cc is in
-    (node, refl, folder_content node.content kind)
-
 -- a directory that is edited is touched
-touched_first : (now : ℕ) (g : Content → Content) → KeepsFolders g → (i : ℕ) (t : Tree) → kind_in (node_at t i) ≡ Some kinds.Directory
-    → IsTouched now (node_at t i) (node_at (change_node i (edited now g) t) i)
-touched_first now g keeps i t folder =
-    let found = folder_node (node_at t i) folder in
-    let new = keeps found.2.0 in
+touched_first : (now : ℕ) (g : Content → Content) → KeepsFolders g → (i : ℕ) (t : Tree) (before : Option Node) → node_at t i ≡ before → kind_in before ≡ Some kinds.Directory
+    → IsTouched now before (node_at (change_node i (edited now g) t) i)
+touched_first now g keeps i t before same folder =
+    let found = kind_some before kinds.Directory folder in
+    let entries = folder_entries found.0.content found.2 in
+    let new = keeps entries.0 in
     record {
       node = found.0;
-      old = found.2.0;
+      old = entries.0;
       new = new.0;
       was = found.1;
-      was_directory = found.2.1;
-      is = changed_here (edited now g) i t ∙ ap (option_map (edited now g)) found.1
-          ∙ ap (λ c. Some (touched now (record found.0 { content = c }))) (ap g found.2.1 ∙ new.1);
+      was_directory = entries.1;
+      is = node_at-change_node_same (edited now g) i t ∙ ap (option_map (edited now g)) (same ∙ found.1)
+          ∙ ap (λ c. Some (touched now (record found.0 { content = c }))) (ap g entries.1 ∙ new.1);
     }
 
 -- and one that was touched, and is edited again
@@ -89,7 +81,7 @@ touched_again now g keeps i t before touches =
       new = new.0;
       was = touches.was;
       was_directory = touches.was_directory;
-      is = changed_here (edited now g) i t ∙ ap (option_map (edited now g)) touches.is
+      is = node_at-change_node_same (edited now g) i t ∙ ap (option_map (edited now g)) touches.is
           ∙ ap (λ c. Some (touched now (record touches.node { content = c }))) new.1;
     }
 
@@ -103,16 +95,6 @@ touched_on now before found after touches same = record {
   is = same ∙ touches.is;
 }
 
-touched_from : (now : ℕ) (before found after : Option Node) → before ≡ found → IsTouched now before after → IsTouched now found after
-touched_from now before found after same touches = record {
-  node = touches.node;
-  old = touches.old;
-  new = touches.new;
-  was = sym same ∙ touches.was;
-  was_directory = touches.was_directory;
-  is = touches.is;
-}
-
 -- a directory that was touched stays so where any directory is edited
 touched_through : (now : ℕ) (g : Content → Content) → KeepsFolders g → (i y : ℕ) (t : Tree) (before : Option Node) → IsTouched now before (node_at t y)
     → IsTouched now before (node_at (change_node i (edited now g) t) y)
@@ -121,7 +103,7 @@ touched_through now g keeps i y t before touches =
       | inl same ↦
           subst (λ k. IsTouched now before (node_at (change_node i (edited now g) t) k)) (sym same)
           (touched_again now g keeps i t before (subst (λ k. IsTouched now before (node_at t k)) same touches))
-      | inr apart ↦ touched_on now before (node_at t y) (node_at (change_node i (edited now g) t) y) touches (changed_there (edited now g) i y t apart)
+      | inr apart ↦ touched_on now before (node_at t y) (node_at (change_node i (edited now g) t) y) touches (node_at-change_node_other (edited now g) i y t apart)
     ]
 
 keeps_unnamed : (name : List ℕ) → KeepsFolders (unnamed name)
@@ -135,16 +117,16 @@ keeps_named name inode old = (_, refl)
 abbrev pub moved_to : ℕ → List ℕ → ℕ → List ℕ → ℕ → ℕ → Tree → Tree
 moved_to p n np nn x now t = change_node x (stamped now) (add_entry np nn x now (drop_entry np nn now (drop_entry p n now t)))
 
-pub move_shape : (t : Tree) (p np x now : ℕ) (n nn : List ℕ) → NamesInOrder t → kind_in (node_at t np) ≡ Some kinds.Directory → (IsPlace np nn p n → ⊥)
+pub shape-moved_to : (t : Tree) (p np x now : ℕ) (n nn : List ℕ) → NamesInOrder t → kind_in (node_at t np) ≡ Some kinds.Directory → (IsPlace np nn p n → ⊥)
     → Moves (shape_of t) (shape_of (moved_to p n np nn x now t)) p n np nn x
-move_shape t p np x now n nn names folder differs =
+shape-moved_to t p np x now n nn names folder differs =
     let one : Tree = drop_entry p n now t in
     let two : Tree = drop_entry np nn now one in
     let three : Tree = add_entry np nn x now two in
-    let first : Unlinks (shape_of t) (shape_of one) p n = drop_shape p n now t names in
-    let second : Unlinks (shape_of one) (shape_of two) np nn = drop_shape np nn now one (names_by.NamesInOrder-drop_entry p n now t names) in
-    let links : Links (shape_of two) (shape_of three) np nn x = add_shape np nn x now two (second.kind np ∙ first.kind np ∙ folder) in
-    let same : Same (shape_of three) (shape_of (moved_to p n np nn x now t)) = same_shape (stamped now) (λ node. refl) (λ name node. refl) x three in
+    let first : Unlinks (shape_of t) (shape_of one) p n = shape-drop_entry p n now t names in
+    let second : Unlinks (shape_of one) (shape_of two) np nn = shape-drop_entry np nn now one (NamesInOrder-drop_entry p n now t names) in
+    let links : Links (shape_of two) (shape_of three) np nn x = shape-add_entry np nn x now two (second.kind np ∙ first.kind np ∙ folder) in
+    let same : Same (shape_of three) (shape_of (moved_to p n np nn x now t)) = shape-change_node (stamped now) (λ node. refl) (λ name node. refl) x three in
     record {
       kind = λ y. same.kind y ∙ links.kind y ∙ second.kind y ∙ first.kind y;
       opened = λ y. same.opened y ∙ links.opened y ∙ second.opened y ∙ first.opened y;
@@ -153,20 +135,20 @@ move_shape t p np x now n nn names folder differs =
       rest = λ q m old new. same.entry q m ∙ links.rest q m new ∙ second.rest q m new ∙ first.rest q m old;
     }
 
-pub ordered_moved : (t : Tree) (p np x now : ℕ) (n nn : List ℕ) → InOrder t → InOrder (moved_to p n np nn x now t)
-ordered_moved t p np x now n nn ordered =
+pub InOrder-moved_to : (t : Tree) (p np x now : ℕ) (n nn : List ℕ) → InOrder t → InOrder (moved_to p n np nn x now t)
+InOrder-moved_to t p np x now n nn ordered =
     let one : Tree = drop_entry p n now t in
     let two : Tree = drop_entry np nn now one in
-    numbers_by.InOrder-change_node (stamped now) x (add_entry np nn x now two) (numbers_by.InOrder-change_node _ np two (numbers_by.InOrder-change_node _ np one (numbers_by.InOrder-change_node _ p t ordered)))
+    InOrder-change_node (stamped now) x (add_entry np nn x now two) (InOrder-change_node _ np two (InOrder-change_node _ np one (InOrder-change_node _ p t ordered)))
 
-pub names_moved : (t : Tree) (p np x now : ℕ) (n nn : List ℕ) → NamesInOrder t → NamesInOrder (moved_to p n np nn x now t)
-names_moved t p np x now n nn names =
+pub NamesInOrder-moved_to : (t : Tree) (p np x now : ℕ) (n nn : List ℕ) → NamesInOrder t → NamesInOrder (moved_to p n np nn x now t)
+NamesInOrder-moved_to t p np x now n nn names =
     let one : Tree = drop_entry p n now t in
     let two : Tree = drop_entry np nn now one in
-    names_by.NamesInOrder-stamped now x (add_entry np nn x now two) (names_by.NamesInOrder-add_entry np nn x now two (names_by.NamesInOrder-drop_entry np nn now one (names_by.NamesInOrder-drop_entry p n now t names)))
+    NamesInOrder-stamped now x (add_entry np nn x now two) (NamesInOrder-add_entry np nn x now two (NamesInOrder-drop_entry np nn now one (NamesInOrder-drop_entry p n now t names)))
 
-pub frame_moved : (t : Tree) (p np x now : ℕ) (n nn : List ℕ) → SameFrame t (moved_to p n np nn x now t)
-frame_moved t p np x now n nn =
+pub SameFrame-moved_to : (t : Tree) (p np x now : ℕ) (n nn : List ℕ) → SameFrame t (moved_to p n np nn x now t)
+SameFrame-moved_to t p np x now n nn =
     let one : Tree = drop_entry p n now t in
     let two : Tree = drop_entry np nn now one in
     let three : Tree = add_entry np nn x now two in
@@ -179,42 +161,40 @@ before_stamp : (t : Tree) (p np x now y : ℕ) (n nn : List ℕ) → y ≢ p →
 before_stamp t p np x now y n nn old new =
     let one : Tree = drop_entry p n now t in
     let two : Tree = drop_entry np nn now one in
-    changed_there _ np y two new ∙ changed_there _ np y one new ∙ changed_there _ p y t old
+    node_at-change_node_other _ np y two new ∙ node_at-change_node_other _ np y one new ∙ node_at-change_node_other _ p y t old
 
-pub moved_other : (t : Tree) (p np x now y : ℕ) (n nn : List ℕ) → y ≢ x → y ≢ p → y ≢ np → node_at (moved_to p n np nn x now t) y ≡ node_at t y
-moved_other t p np x now y n nn apart old new =
-    changed_there (stamped now) x y (add_entry np nn x now (drop_entry np nn now (drop_entry p n now t))) apart ∙ before_stamp t p np x now y n nn old new
+pub node_at-moved_to_other : (t : Tree) (p np x now y : ℕ) (n nn : List ℕ) → y ≢ x → y ≢ p → y ≢ np → node_at (moved_to p n np nn x now t) y ≡ node_at t y
+node_at-moved_to_other t p np x now y n nn apart old new =
+    node_at-change_node_other (stamped now) x y (add_entry np nn x now (drop_entry np nn now (drop_entry p n now t))) apart ∙ before_stamp t p np x now y n nn old new
 
-pub moved_itself : (t : Tree) (p np x now : ℕ) (n nn : List ℕ) → x ≢ p → x ≢ np → node_at (moved_to p n np nn x now t) x ≡ option_map (stamped now) (node_at t x)
-moved_itself t p np x now n nn old new =
-    changed_here (stamped now) x (add_entry np nn x now (drop_entry np nn now (drop_entry p n now t))) ∙ ap (option_map (stamped now)) (before_stamp t p np x now x n nn old new)
+pub node_at-moved_to_same : (t : Tree) (p np x now : ℕ) (n nn : List ℕ) → x ≢ p → x ≢ np → node_at (moved_to p n np nn x now t) x ≡ option_map (stamped now) (node_at t x)
+node_at-moved_to_same t p np x now n nn old new =
+    node_at-change_node_same (stamped now) x (add_entry np nn x now (drop_entry np nn now (drop_entry p n now t))) ∙ ap (option_map (stamped now)) (before_stamp t p np x now x n nn old new)
 
 old_parent : (t : Tree) (p np x now : ℕ) (n nn : List ℕ) → kind_in (node_at t p) ≡ Some kinds.Directory → p ≢ x → IsTouched now (node_at t p) (node_at (moved_to p n np nn x now t) p)
 old_parent t p np x now n nn folder apart =
     let one : Tree = drop_entry p n now t in
     let two : Tree = drop_entry np nn now one in
     let three : Tree = add_entry np nn x now two in
-    let first : IsTouched now (node_at t p) (node_at one p) = touched_first now (unnamed n) (keeps_unnamed n) p t folder in
+    let first : IsTouched now (node_at t p) (node_at one p) = touched_first now (unnamed n) (keeps_unnamed n) p t (node_at t p) refl folder in
     let second : IsTouched now (node_at t p) (node_at two p) = touched_through now (unnamed nn) (keeps_unnamed nn) np p one (node_at t p) first in
     let third : IsTouched now (node_at t p) (node_at three p) = touched_through now (named nn x) (keeps_named nn x) np p two (node_at t p) second in
-    touched_on now (node_at t p) (node_at three p) (node_at (moved_to p n np nn x now t) p) third (changed_there (stamped now) x p three apart)
+    touched_on now (node_at t p) (node_at three p) (node_at (moved_to p n np nn x now t) p) third (node_at-change_node_other (stamped now) x p three apart)
 
 new_parent : (t : Tree) (p np x now : ℕ) (n nn : List ℕ) → kind_in (node_at t np) ≡ Some kinds.Directory → np ≢ x → np ≢ p → IsTouched now (node_at t np) (node_at (moved_to p n np nn x now t) np)
 new_parent t p np x now n nn folder apart differs =
     let one : Tree = drop_entry p n now t in
     let two : Tree = drop_entry np nn now one in
     let three : Tree = add_entry np nn x now two in
-    let same : node_at one np ≡ node_at t np = changed_there _ p np t differs in
-    let second : IsTouched now (node_at one np) (node_at two np) = touched_first now (unnamed nn) (keeps_unnamed nn) np one (ap kind_in same ∙ folder) in
-    let third : IsTouched now (node_at one np) (node_at three np) = touched_again now (named nn x) (keeps_named nn x) np two (node_at one np) second in
-    touched_from now (node_at one np) (node_at t np) (node_at (moved_to p n np nn x now t) np) same
-    (touched_on now (node_at one np) (node_at three np) (node_at (moved_to p n np nn x now t) np) third (changed_there (stamped now) x np three apart))
+    let second : IsTouched now (node_at t np) (node_at two np) = touched_first now (unnamed nn) (keeps_unnamed nn) np one (node_at t np) (node_at-change_node_other _ p np t differs) folder in
+    let third : IsTouched now (node_at t np) (node_at three np) = touched_again now (named nn x) (keeps_named nn x) np two (node_at t np) second in
+    touched_on now (node_at t np) (node_at three np) (node_at (moved_to p n np nn x now t) np) third (node_at-change_node_other (stamped now) x np three apart)
 
-pub moved_parents : (t : Tree) (p np x now : ℕ) (n nn : List ℕ) → kind_in (node_at t p) ≡ Some kinds.Directory → kind_in (node_at t np) ≡ Some kinds.Directory → x ≢ p → x ≢ np
+pub moved_to-touches : (t : Tree) (p np x now : ℕ) (n nn : List ℕ) → kind_in (node_at t p) ≡ Some kinds.Directory → kind_in (node_at t np) ≡ Some kinds.Directory → x ≢ p → x ≢ np
     → (y : ℕ) → (y ≡ p) ⊎ (y ≡ np) → IsTouched now (node_at t y) (node_at (moved_to p n np nn x now t) y)
-moved_parents t p np x now n nn folder new_folder old new y (inl same) =
+moved_to-touches t p np x now n nn folder new_folder old new y (inl same) =
     subst (λ k. IsTouched now (node_at t k) (node_at (moved_to p n np nn x now t) k)) (sym same) (old_parent t p np x now n nn folder (λ is. old (sym is)))
-moved_parents t p np x now n nn folder new_folder old new y (inr same) =
+moved_to-touches t p np x now n nn folder new_folder old new y (inr same) =
     elim (cases_eq y p) [
       | inl also ↦ subst (λ k. IsTouched now (node_at t k) (node_at (moved_to p n np nn x now t) k)) (sym also) (old_parent t p np x now n nn folder (λ is. old (sym is)))
       | inr apart ↦
@@ -229,48 +209,41 @@ pub record Settles (r now : ℕ) (t after : Tree) : Type 0 where
   pub itself : ((lives after r ≡ true) × (node_at after r ≡ option_map (stamped now) (node_at t r))) ⊎ ((lives after r ≡ false) × (node_at after r ≡ None))
   pub frame : SameFrame t after
 
-dead_stays : (a b c : Bool) → a ≡ false → b ≡ false → c ≡ false → (a || b || c) ≡ false
-dead_stays a b c first second third = rw (first, second, third) refl
-
-no_truth : (a : Bool) → (a ≡ true → ⊥) → a ≡ false
-no_truth true never = absurd (never refl)
-no_truth false never = refl
-
 -- what nothing kept is kept by nothing when it is gone
 still_dead : (r : ℕ) (t : Tree) → InOrder t → NamesInOrder t → lives t r ≡ false → NamesInOrder (without_node r t) → lives (without_node r t) r ≡ false
 still_dead r t ordered names dead left =
     let after : Tree = without_node r t in
     let parts = dead_is t r dead in
-    let removes : Removes (shape_of t) (shape_of after) r = remove_shape r t ordered in
+    let removes : Removes (shape_of t) (shape_of after) r = shape-without_node r t ordered in
     let unnamed : IsUnnamed (shape_of after) r = λ q m is.
     elim (cases_eq q r) [
       | inl same ↦ none_some (entry_at after r m) r (removes.none m) (ap (λ k. entry_at after k m) (sym same) ∙ is)
       | inr apart ↦ parts.0 q m (sym (removes.entry q m apart) ∙ is)
     ] in
-    dead_stays (r == root) (is_named after r) (is_open after r) (ne_eqb r root parts.2) (not_named after (numbers_by.InOrder-without_node r t ordered) left r unnamed (is_named after r) refl)
-    (no_truth (is_open after r) parts.1)
+    or_from (r == root || is_named after r) (is_open after r) (or_from (r == root) (is_named after r) (ne_eqb r root parts.2) (not_named after (InOrder-without_node r t ordered) left r unnamed))
+    (false_from_ne_true (is_open after r) parts.1)
 
 settles_if : (r now : ℕ) (t : Tree) → InOrder t → NamesInOrder t → (test : Bool) → lives (change_node r (stamped now) t) r ≡ test
     → Settles r now t (cond test (change_node r (stamped now) t) (without_node r (change_node r (stamped now) t)))
 settles_if r now t ordered names true is = record {
-  others = λ y apart. changed_there (stamped now) r y t apart;
-  itself = inl (is, changed_here (stamped now) r t);
+  others = λ y apart. node_at-change_node_other (stamped now) r y t apart;
+  itself = inl (is, node_at-change_node_same (stamped now) r t);
   frame = frame_change (stamped now) r t;
 }
 settles_if r now t ordered names false is =
     let six : Tree = change_node r (stamped now) t in
-    let six_ordered : InOrder six = numbers_by.InOrder-change_node (stamped now) r t ordered in
-    let six_names : NamesInOrder six = names_by.NamesInOrder-stamped now r t names in
-    let left : NamesInOrder (without_node r six) = subst (λ b. NamesInOrder (cond b six (without_node r six))) is (names_by.NamesInOrder-settled r six six_names) in
+    let six_ordered : InOrder six = InOrder-change_node (stamped now) r t ordered in
+    let six_names : NamesInOrder six = NamesInOrder-stamped now r t names in
+    let left : NamesInOrder (without_node r six) = subst (λ b. NamesInOrder (cond b six (without_node r six))) is (NamesInOrder-settled r six six_names) in
     let same : SameFrame t six = frame_change (stamped now) r t in
     record {
-      others = λ y apart. removed_there nat_cmp numbers_tell r y six.nodes apart ∙ changed_there (stamped now) r y t apart;
-      itself = inr (still_dead r six six_ordered six_names is left, number_removed r 0 six.nodes six.next_inode six_ordered);
+      others = λ y apart. lookup-remove_entry_other nat_cmp numbers_tell r y six.nodes apart ∙ node_at-change_node_other (stamped now) r y t apart;
+      itself = inr (still_dead r six six_ordered six_names is left, lookup-remove_entry_same r 0 six.nodes six.next_inode six_ordered);
       frame = record { handles = same.handles; next_inode = same.next_inode; next_handle = same.next_handle; block_size = same.block_size };
     }
 
-pub settles : (r now : ℕ) (t : Tree) → InOrder t → NamesInOrder t → Settles r now t (settled r (change_node r (stamped now) t))
-settles r now t ordered names = settles_if r now t ordered names (lives (change_node r (stamped now) t) r) refl
+pub Settles-settled : (r now : ℕ) (t : Tree) → InOrder t → NamesInOrder t → Settles r now t (settled r (change_node r (stamped now) t))
+Settles-settled r now t ordered names = settles_if r now t ordered names (lives (change_node r (stamped now) t) r) refl
 
 -- a node that is stamped has the entries that it had
 pub stamped_entry : (now : ℕ) (m : List ℕ) (found : Option Node) → entry_in m (option_map (stamped now) found) ≡ entry_in m found

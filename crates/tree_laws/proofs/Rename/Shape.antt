@@ -1,44 +1,29 @@
 -- One tree of names without orphans, through a rename.
 use Rattle.std.proofs.Common.{◌≡◌, ◌≢◌, ℕ, List, Bool, true, false, Option, None, Some, refl, sym, ap, ◌∙◌, inl, inr, subst}
+use Rattle.std.proofs.lemmas.Bool.{and_cases, eqb-true, eq-eqb, ne_eqb, both_ways}
 use Rattle.std.specs.Prelude.{◌==◌, ◌&&◌, unwrap_or, option_and_then}
-use Rattle.std.proofs.lemmas.Bool.{eqb-true, eq-eqb, ne_eqb}
 use Rattle.s3_base.specs.declared.node_kind.Kind.{Kind}
 use Rattle.s3_base.specs.declared.node_kind.Kind.TheVariants as kinds
-use Rattle.plain_tree.specs.Attributes.{kind_of}
 use Rattle.plain_tree.specs.Below.{is_among, at_and_below, is_at_or_below}
 use Rattle.plain_tree.specs.Checks.{keep_check, entry_check, empty_check}
-use Rattle.plain_tree.specs.Entries.{is_directory, is_folder, entry_at, add_entry, drop_entry}
+use Rattle.plain_tree.specs.Entries.{is_folder, entry_at, drop_entry}
 use Rattle.plain_tree.specs.Subtrees.{is_same, dropped, moved_entry}
-use Rattle.plain_tree.specs.Tree.{Content, Regular, Directory, Link, Node, Tree, node_at, change_node, stamped}
-use Rattle.plain_tree.specs.Names.{NamesInOrder}
-use Rattle.plain_tree.specs.Numbers.{InOrder}
-use Rattle.tree_laws.proofs.Bools.{left_false}
-use Rattle.tree_laws.proofs.Shape.Gain.{IsBelow, Moves, moved}
-use Rattle.tree_laws.proofs.Shape.Loss.{Unlinks, none_some, unlinked}
-use Rattle.tree_laws.proofs.Name.Order as names_by
-use Rattle.tree_laws.proofs.Node.Order as numbers_by
-use Rattle.tree_laws.proofs.Shape.Words.{Grown, NoneGoes, Only, IsPlace, one_entry, not_there, Same}
-use Rattle.tree_laws.proofs.Shape.Steps.{Sound, folder_is, empty_is, keep_is, lost}
-use Rattle.tree_laws.proofs.Shape.Tree.{kind_in, shape_of, same_shape, drop_shape, Links, add_shape}
-use Rattle.tree_laws.proofs.Walk.Passed.{CanMove}
+use Rattle.plain_tree.specs.Tree.{Tree, node_at}
+use Rattle.tree_laws.proofs.Node.Kind.{file_no_folder, kind_in, none_some, is_a_folder, folder_is, empty_is}
+use Rattle.tree_laws.proofs.Rename.Nodes.{InOrder-moved_to, NamesInOrder-moved_to, shape-moved_to, moved_to}
 use Rattle.tree_laws.proofs.Shape.Below.{below_shape}
+use Rattle.tree_laws.proofs.Shape.Gain.{IsBelow, Moves, Grown-moved}
+use Rattle.tree_laws.proofs.Shape.Loss.{Unlinks, Grown-unlinked}
+use Rattle.tree_laws.proofs.Shape.Steps.{Sound, keep_is, Grown-stamped_settled}
+use Rattle.tree_laws.proofs.Shape.Tree.{shape_of, shape-drop_entry}
+use Rattle.tree_laws.proofs.Shape.Words.{Grown, NoneGoes, Only, IsPlace, one_entry, not_there}
+use Rattle.tree_laws.proofs.Walk.Passed.{CanMove}
 
 -- what lies at and below the node that moves, and where it goes is not there
 record Branch (t : Tree) (x np : ℕ) : Type 0 where
   pub among : ℕ → Bool
   pub below : IsBelow (shape_of t) x among
   pub outside : among np ≡ false
-
-pub folder_content : (content : Content) → kind_of content ≡ kinds.Directory → is_directory content ≡ true
-folder_content (Directory entries) is = refl
-folder_content (Regular bytes) is = absurd (cc is)
-folder_content (Link target) is = absurd (cc is)
-
-pub is_a_folder : (found : Option Node) → kind_in found ≡ Some kinds.Directory → is_folder found ≡ true
-is_a_folder None is = absurd (cc is)
-is_a_folder (Some node) is =
-    let same : kind_of node.content ≡ kinds.Directory = cc is in
-    folder_content node.content same
 
 alone : (t : Tree) (x np : ℕ) → Sound t → (kind_in (node_at t x) ≡ Some kinds.Directory → ⊥) → kind_in (node_at t np) ≡ Some kinds.Directory → Branch t x np
 alone t x np sound file folder = record {
@@ -51,17 +36,29 @@ alone t x np sound file folder = record {
   outside = ne_eqb np x (λ same. file (ap (λ k. kind_in (node_at t k)) (sym same) ∙ folder));
 }
 
+-- a directory does not move to where it is, or below it
+pub not_below_itself : (t : Tree) (x np : ℕ) → (is_at_or_below t x np && is_folder (node_at t x)) ≡ false → is_folder (node_at t x) ≡ true → is_at_or_below t x np ≡ false
+not_below_itself t x np passes folder = elim (and_cases (is_at_or_below t x np) (is_folder (node_at t x)) passes) [ inl outside ↦ outside | inr file ↦ absurd (both_ways _ file folder) ]
+
+-- what moves is not put below itself, and what it replaces is another node without entries
+pub moves_outside : (t : Tree) (p : ℕ) (n : List ℕ) (np : ℕ) (nn : List ℕ) (x : ℕ) → CanMove t p n np nn → entry_at t p n ≡ Some x → (is_at_or_below t x np && is_folder (node_at t x)) ≡ false
+moves_outside t p n np nn x can names = ap (λ o. is_at_or_below t (unwrap_or o 0) np && is_folder (option_and_then (node_at t) o)) (sym names) ∙ can.outside
+
+pub replaces_empty : (t : Tree) (p : ℕ) (n : List ℕ) (np : ℕ) (nn : List ℕ) (x r : ℕ) → CanMove t p n np nn → entry_at t p n ≡ Some x → entry_at t np nn ≡ Some r
+    → (x ≢ r) × ((m : List ℕ) → entry_at t r m ≡ None)
+replaces_empty t p n np nn x r can names new =
+    let differs : (r == x) ≡ false = ap (λ o. is_same o (Some x)) (sym new) ∙ ap (is_same (entry_at t np nn)) (sym names) ∙ can.differs in
+    (λ same. both_ways _ differs (eq-eqb r x (sym same)), empty_is (node_at t r) (ap (λ o. empty_check (option_and_then (node_at t) o)) (sym new) ∙ can.empty))
+
 branch_of : (t : Tree) (x np : ℕ) (k : Kind) → Sound t → kind_in (node_at t x) ≡ Some k → kind_in (node_at t np) ≡ Some kinds.Directory
     → (is_at_or_below t x np && is_folder (node_at t x)) ≡ false → Branch t x np
 branch_of t x np kinds.Directory sound kind folder passes = record {
   among = is_among (at_and_below t x);
   below = below_shape t sound.names x;
-  outside = left_false (is_at_or_below t x np) (is_folder (node_at t x)) passes (is_a_folder (node_at t x) kind);
+  outside = not_below_itself t x np passes (is_a_folder (node_at t x) kind);
 }
 branch_of t x np kinds.Regular sound kind folder passes =
-    alone t x np sound (λ is.
-    let both_ways : Some kinds.Regular ≡ Some kinds.Directory = sym kind ∙ is in
-    cc both_ways) folder
+    alone t x np sound (λ is. file_no_folder _ kind is) folder
 branch_of t x np kinds.Link sound kind folder passes =
     alone t x np sound (λ is.
     let both_ways : Some kinds.Link ≡ Some kinds.Directory = sym kind ∙ is in
@@ -69,46 +66,13 @@ branch_of t x np kinds.Link sound kind folder passes =
 
 -- ---- the tree in which the entry has moved
 
-abbrev moved_to : ℕ → List ℕ → ℕ → List ℕ → ℕ → ℕ → Tree → Tree
-moved_to p n np nn x now t = change_node x (stamped now) (add_entry np nn x now (drop_entry np nn now (drop_entry p n now t)))
-
-move_shape : (t : Tree) (p np x now : ℕ) (n nn : List ℕ) → NamesInOrder t → kind_in (node_at t np) ≡ Some kinds.Directory → (IsPlace np nn p n → ⊥)
-    → Moves (shape_of t) (shape_of (moved_to p n np nn x now t)) p n np nn x
-move_shape t p np x now n nn names folder differs =
-    let one : Tree = drop_entry p n now t in
-    let two : Tree = drop_entry np nn now one in
-    let three : Tree = add_entry np nn x now two in
-    let first : Unlinks (shape_of t) (shape_of one) p n = drop_shape p n now t names in
-    let second : Unlinks (shape_of one) (shape_of two) np nn = drop_shape np nn now one (names_by.NamesInOrder-drop_entry p n now t names) in
-    let links : Links (shape_of two) (shape_of three) np nn x = add_shape np nn x now two (second.kind np ∙ first.kind np ∙ folder) in
-    let same : Same (shape_of three) (shape_of (moved_to p n np nn x now t)) = same_shape (stamped now) (λ node. refl) (λ name node. refl) x three in
-    record {
-      kind = λ y. same.kind y ∙ links.kind y ∙ second.kind y ∙ first.kind y;
-      opened = λ y. same.opened y ∙ links.opened y ∙ second.opened y ∙ first.opened y;
-      here = same.entry np nn ∙ links.here;
-      gone = same.entry p n ∙ links.rest p n differs ∙ second.rest p n differs ∙ first.gone;
-      rest = λ q m old new. same.entry q m ∙ links.rest q m new ∙ second.rest q m new ∙ first.rest q m old;
-    }
-
-ordered_moved : (t : Tree) (p np x now : ℕ) (n nn : List ℕ) → InOrder t → InOrder (moved_to p n np nn x now t)
-ordered_moved t p np x now n nn ordered =
-    let one : Tree = drop_entry p n now t in
-    let two : Tree = drop_entry np nn now one in
-    numbers_by.InOrder-change_node (stamped now) x (add_entry np nn x now two) (numbers_by.InOrder-change_node _ np two (numbers_by.InOrder-change_node _ np one (numbers_by.InOrder-change_node _ p t ordered)))
-
-names_moved : (t : Tree) (p np x now : ℕ) (n nn : List ℕ) → NamesInOrder t → NamesInOrder (moved_to p n np nn x now t)
-names_moved t p np x now n nn names =
-    let one : Tree = drop_entry p n now t in
-    let two : Tree = drop_entry np nn now one in
-    names_by.NamesInOrder-stamped now x (add_entry np nn x now two) (names_by.NamesInOrder-add_entry np nn x now two (names_by.NamesInOrder-drop_entry np nn now one (names_by.NamesInOrder-drop_entry p n now t names)))
-
 -- ---- a rename
 
 to_a_new_name : (t : Tree) (p np x now : ℕ) (n nn : List ℕ) → Sound t → Branch t x np → entry_at t p n ≡ Some x → entry_at t np nn ≡ None → kind_in (node_at t np) ≡ Some kinds.Directory
     → keep_check p n ≡ None → Grown NoneGoes (shape_of (moved_to p n np nn x now t))
 to_a_new_name t p np x now n nn sound branch names free folder keep =
-    moved NoneGoes (shape_of t) (shape_of (moved_to p n np nn x now t)) p np x n nn branch.among
-    (move_shape t p np x now n nn sound.names folder (λ same. not_there (entry_at t) np nn p n x same free names))
+    Grown-moved NoneGoes (shape_of t) (shape_of (moved_to p n np nn x now t)) p np x n nn branch.among
+    (shape-moved_to t p np x now n nn sound.names folder (λ same. not_there (entry_at t) np nn p n x same free names))
     (record {
       names = names;
       free = free;
@@ -124,10 +88,9 @@ to_a_new_name t p np x now n nn sound branch names free folder keep =
 -- what lies below the node that moves is as it was where another entry has gone
 still_below : (t : Tree) (np x now : ℕ) (nn : List ℕ) → Sound t → (branch : Branch t x np) → IsBelow (shape_of (drop_entry np nn now t)) x branch.among
 still_below t np x now nn sound branch =
-    let drops : Unlinks (shape_of t) (shape_of (drop_entry np nn now t)) np nn = drop_shape np nn now t sound.names in
+    let drops : Unlinks (shape_of t) (shape_of (drop_entry np nn now t)) np nn = shape-drop_entry np nn now t sound.names in
     let differs : (q : ℕ) (m : List ℕ) → branch.among q ≡ true → IsPlace np nn q m → ⊥ = λ q m within same.
-    let both_ways : true ≡ false = sym within ∙ ap branch.among same.0 ∙ branch.outside in
-    cc both_ways in
+    both_ways _ (ap branch.among same.0 ∙ branch.outside) within in
     record {
       itself = branch.below.itself;
       down = λ q y m within is. branch.below.down q y m within (sym (drops.rest q m (differs q m within)) ∙ is);
@@ -142,9 +105,9 @@ over_another : (t : Tree) (p np x r now : ℕ) (n nn : List ℕ) → Sound t →
     → keep_check p n ≡ None → keep_check np nn ≡ None → ((m : List ℕ) → entry_at t r m ≡ None) → Grown (Only r) (shape_of (moved_to p n np nn x now t))
 over_another t p np x r now n nn sound branch names replaced apart folder keep new_keep empty =
     let differs : IsPlace np nn p n → ⊥ = λ same. apart (one_entry (entry_at t) np nn p n r x same replaced names) in
-    let drops : Unlinks (shape_of t) (shape_of (drop_entry np nn now t)) np nn = drop_shape np nn now t sound.names in
-    let moves : Moves (shape_of t) (shape_of (moved_to p n np nn x now t)) p n np nn x = move_shape t p np x now n nn sound.names folder differs in
-    moved (Only r) (shape_of (drop_entry np nn now t)) (shape_of (moved_to p n np nn x now t)) p np x n nn branch.among
+    let drops : Unlinks (shape_of t) (shape_of (drop_entry np nn now t)) np nn = shape-drop_entry np nn now t sound.names in
+    let moves : Moves (shape_of t) (shape_of (moved_to p n np nn x now t)) p n np nn x = shape-moved_to t p np x now n nn sound.names folder differs in
+    Grown-moved (Only r) (shape_of (drop_entry np nn now t)) (shape_of (moved_to p n np nn x now t)) p np x n nn branch.among
     (record {
       kind = λ y. moves.kind y ∙ sym (drops.kind y);
       opened = λ y. moves.opened y ∙ sym (drops.opened y);
@@ -162,12 +125,7 @@ over_another t p np x r now n nn sound branch names replaced apart folder keep n
       below = still_below t np x now nn sound branch;
       outside = branch.outside;
     })
-    (unlinked (shape_of t) (shape_of (drop_entry np nn now t)) np r nn drops sound.grown replaced (keep_is np nn new_keep) empty)
-
-differ_if : (r x : ℕ) → (r == x) ≡ false → x ≢ r
-differ_if r x is same =
-    let both_ways : true ≡ false = sym (eq-eqb r x (sym same)) ∙ is in
-    cc both_ways
+    (Grown-unlinked (shape_of t) (shape_of (drop_entry np nn now t)) np r nn drops sound.grown replaced (keep_is np nn new_keep) empty)
 
 renamed_if : (t : Tree) (p : ℕ) (n : List ℕ) (np : ℕ) (nn : List ℕ) (now : ℕ) → Sound t → CanMove t p n np nn → (found replaced : Option ℕ) → entry_at t p n ≡ found → entry_at t np nn ≡ replaced
     → Grown NoneGoes (shape_of (moved_entry p n np nn now found t))
@@ -175,19 +133,16 @@ renamed_if t p n np nn now sound can None replaced names new = absurd (cc (ap en
 renamed_if t p n np nn now sound can (Some x) replaced names new =
     let folder : kind_in (node_at t np) ≡ Some kinds.Directory = folder_is (node_at t np) can.rename.new_there can.rename.new_folder in
     let node = sound.grown.there p x n names in
-    let outside : (is_at_or_below t x np && is_folder (node_at t x)) ≡ false =
-    ap (λ o. is_at_or_below t (unwrap_or o 0) np && is_folder (option_and_then (node_at t) o)) (sym names) ∙ can.outside in
-    let branch : Branch t x np = branch_of t x np node.0 sound node.1 folder outside in
+    let branch : Branch t x np = branch_of t x np node.0 sound node.1 folder (moves_outside t p n np nn x can names) in
     elim replaced as (λ r. entry_at t np nn ≡ r → Grown NoneGoes (shape_of (moved_entry p n np nn now (Some x) t))) [
       | None ↦ λ new. subst (λ r. Grown NoneGoes (shape_of (dropped now r (moved_to p n np nn x now t)))) (sym new)
           (to_a_new_name t p np x now n nn sound branch names new folder can.rename.kept)
       | Some r ↦ λ new.
-          let differs : (r == x) ≡ false = ap (λ o. is_same o (Some x)) (sym new) ∙ ap (is_same (entry_at t np nn)) (sym names) ∙ can.differs in
-          let empty : empty_check (node_at t r) ≡ None = ap (λ o. empty_check (option_and_then (node_at t) o)) (sym new) ∙ can.empty in
+          let over = replaces_empty t p n np nn x r can names new in
           subst (λ r. Grown NoneGoes (shape_of (dropped now r (moved_to p n np nn x now t)))) (sym new)
-          (lost r now (moved_to p n np nn x now t) (ordered_moved t p np x now n nn sound.ordered) (names_moved t p np x now n nn sound.names)
-          (over_another t p np x r now n nn sound branch names new (differ_if r x differs) folder can.rename.kept can.rename.new_kept (empty_is (node_at t r) empty)))
+          (Grown-stamped_settled r now (moved_to p n np nn x now t) (InOrder-moved_to t p np x now n nn sound.ordered) (NamesInOrder-moved_to t p np x now n nn sound.names)
+          (over_another t p np x r now n nn sound branch names new over.0 folder can.rename.kept can.rename.new_kept over.1))
     ] new
 
-pub renamed : (t : Tree) (p : ℕ) (n : List ℕ) (np : ℕ) (nn : List ℕ) (now : ℕ) → Sound t → CanMove t p n np nn → Grown NoneGoes (shape_of (moved_entry p n np nn now (entry_at t p n) t))
-renamed t p n np nn now sound can = renamed_if t p n np nn now sound can (entry_at t p n) (entry_at t np nn) refl refl
+pub Grown-moved_entry : (t : Tree) (p : ℕ) (n : List ℕ) (np : ℕ) (nn : List ℕ) (now : ℕ) → Sound t → CanMove t p n np nn → Grown NoneGoes (shape_of (moved_entry p n np nn now (entry_at t p n) t))
+Grown-moved_entry t p n np nn now sound can = renamed_if t p n np nn now sound can (entry_at t p n) (entry_at t np nn) refl refl

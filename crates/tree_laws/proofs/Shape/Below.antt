@@ -1,21 +1,22 @@
 -- A walk finds all that lies below, and nothing else.
 use Rattle.std.proofs.Common.{◌≡◌, ◌≤◌, ◌<◌, ℕ, zero, suc, ◌+◌, List, [], ◌∷◌, ◌++◌, Bool, true, false, cond, Option, None, Some, refl, sym, ap, ◌∙◌, ◌⊎◌, inl, inr, arith}
-use Rattle.std.specs.Prelude.{◌==◌, ◌||◌, length, map, fold}
+use Rattle.std.proofs.lemmas.Bool.{eqb-true, eq-eqb, or_left, or_right, or_cases}
+use Rattle.std.proofs.lemmas.List.Folds.{list_any-append}
 use Rattle.std.specs.BTreeMap.{is_at}
 use Rattle.std.specs.List.{list_any}
 use Rattle.std.specs.Map.{keys_of, lookup}
 use Rattle.std.specs.Ordering.{nat_cmp}
-use Rattle.std.proofs.lemmas.Bool.{eqb-true, eq-eqb}
-use Rattle.std.proofs.lemmas.List.Folds.{list_any-append}
+use Rattle.std.specs.Prelude.{◌==◌, ◌||◌, length, map, fold}
 use Rattle.plain_tree.specs.Below.{is_among, children, walk, at_and_below}
 use Rattle.plain_tree.specs.Entries.{entries_of}
-use Rattle.plain_tree.specs.Tree.{Node, Tree, node_at}
 use Rattle.plain_tree.specs.Names.{Rise, NamesInOrder}
-use Rattle.tree_laws.proofs.Bools.{left_true, right_true, either_true}
-use Rattle.tree_laws.proofs.Shape.Gain.{IsBelow}
+use Rattle.plain_tree.specs.Tree.{Node, Tree, node_at}
 use Rattle.tree_laws.proofs.Name.Reading.{any_named}
-use Rattle.tree_laws.proofs.Node.Reading.{same_number}
-use Rattle.tree_laws.proofs.Shape.Tree.{shape_of, entry_in, rise_at, entry_to, entry_named}
+use Rattle.tree_laws.proofs.Node.Keys.{same_number}
+use Rattle.tree_laws.proofs.Node.Kind.{entry_in, entry_to}
+use Rattle.tree_laws.proofs.Shape.Gain.{IsBelow}
+use Rattle.tree_laws.proofs.Shape.Named.{entry_named}
+use Rattle.tree_laws.proofs.Shape.Tree.{shape_of, rise_at}
 
 -- ---- lists of inodes
 
@@ -23,16 +24,16 @@ abbrev Within : List ℕ → List ℕ → Type 0
 Within seen more = (y : ℕ) → is_among seen y ≡ true → is_among more y ≡ true
 
 add_one : (seen : List ℕ) (inode : ℕ) → Within seen (seen ++ inode ∷ [])
-add_one seen inode y is = list_any-append (λ i. i == y) seen (inode ∷ []) ∙ left_true (is_among seen y) _ is
+add_one seen inode y is = list_any-append (λ i. i == y) seen (inode ∷ []) ∙ or_left (is_among seen y) _ is
 
 is_added : (seen : List ℕ) (inode : ℕ) → is_among (seen ++ inode ∷ []) inode ≡ true
-is_added seen inode = list_any-append (λ i. i == inode) seen (inode ∷ []) ∙ right_true (is_among seen inode) _ (left_true (inode == inode) false (eq-eqb inode inode refl))
+is_added seen inode = list_any-append (λ i. i == inode) seen (inode ∷ []) ∙ or_right (is_among seen inode) _ (or_left (inode == inode) false (eq-eqb inode inode refl))
 
 added_was : (seen : List ℕ) (inode y : ℕ) → is_among (seen ++ inode ∷ []) y ≡ true → (is_among seen y ≡ true) ⊎ (y ≡ inode)
 added_was seen inode y is =
-    elim (either_true (is_among seen y) ((inode == y) || false) (sym (list_any-append (λ i. i == y) seen (inode ∷ [])) ∙ is)) [
+    elim (or_cases (is_among seen y) ((inode == y) || false) (sym (list_any-append (λ i. i == y) seen (inode ∷ [])) ∙ is)) [
       | inl old ↦ inl old
-      | inr new ↦ elim (either_true (inode == y) false new) [
+      | inr new ↦ elim (or_cases (inode == y) false new) [
         | inl same ↦ inr (sym (eqb-true inode y same))
         | inr none ↦ absurd (cc none)
       ]
@@ -114,7 +115,7 @@ walked_all t n step walks [] seen fits = record {
   up = λ y is. inl is;
 }
 walked_all t n step walks (inode ∷ inodes) seen fits =
-    let less : left seen t.nodes < n = fits inode (left_true (inode == inode) (is_among inodes inode) (eq-eqb inode inode refl)) in
+    let less : left seen t.nodes < n = fits inode (or_left (inode == inode) (is_among inodes inode) (eq-eqb inode inode refl)) in
     let middle : List ℕ = step inode seen in
     let one : Walked t inode seen middle = walks inode seen less in
     let smaller : left middle t.nodes ≤ left seen t.nodes = fewer seen middle one.grows t.nodes in
@@ -122,7 +123,7 @@ walked_all t n step walks (inode ∷ inodes) seen fits =
     record {
       grows = λ y is. rest.grows y (one.grows y is);
       all = λ y is.
-          elim (either_true (inode == y) (is_among inodes y) is) [
+          elim (or_cases (inode == y) (is_among inodes y) is) [
             | inl first ↦ ap (is_among (fold (λ s child. step child s) middle inodes)) (sym (eqb-true inode y first)) ∙ rest.grows inode one.itself
             | inr later ↦ rest.all y later
           ];
@@ -137,13 +138,13 @@ walked_all t n step walks (inode ∷ inodes) seen fits =
       up = λ y is.
           elim (rest.up y is) [
             | inr from ↦ elim from [
-              | inl later ↦ inr (inl (right_true (inode == y) (is_among inodes y) later))
+              | inl later ↦ inr (inl (or_right (inode == y) (is_among inodes y) later))
               | inr below ↦ inr (inr below)
             ]
             | inl old ↦ elim (one.up y old) [
               | inl older ↦ inl older
               | inr from ↦ elim from [
-                | inl same ↦ inr (inl (left_true (inode == y) (is_among inodes y) (eq-eqb inode y (sym same))))
+                | inl same ↦ inr (inl (or_left (inode == y) (is_among inodes y) (eq-eqb inode y (sym same))))
                 | inr below ↦ inr (inr (below.0, rest.grows below.0 below.1, below.2))
               ]
             ]

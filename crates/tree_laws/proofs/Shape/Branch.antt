@@ -1,10 +1,11 @@
 -- Whole subtrees that go or are copied, and the tree of names that comes of it.
 use Rattle.std.proofs.Common.{◌≡◌, ◌≢◌, ℕ, zero, suc, List, Bool, true, false, None, Some, refl, sym, ap, ◌∙◌, ◌⊎◌, inl, inr, subst}
+use Rattle.std.proofs.lemmas.Bool.{false_from_ne_true, both_ways}
 use Rattle.s3_base.specs.declared.node_kind.Kind.{Kind}
 use Rattle.s3_base.specs.declared.node_kind.Kind.TheVariants as kinds
 use Rattle.plain_tree.specs.Tree.{root, lost_and_found}
-use Rattle.tree_laws.proofs.Shape.Gain.{IsBelow, outside, root_inside, downwards, no_round}
-use Rattle.tree_laws.proofs.Shape.Loss.{none_some}
+use Rattle.tree_laws.proofs.Node.Kind.{one_some, none_some}
+use Rattle.tree_laws.proofs.Shape.Gain.{IsBelow, outside_above, root_inside, holds_downwards, no_round}
 use Rattle.tree_laws.proofs.Shape.Words.{Shape, Leads, IsUnnamed, Grown, NoneGoes, IsPlace, cases_place, one_entry, not_there, leads_on}
 
 -- ---- a subtree that goes
@@ -19,7 +20,7 @@ pub record Uproots (v w : Shape) (p : ℕ) (n : List ℕ) (among : ℕ → Bool)
   pub rest : (q : ℕ) (m : List ℕ) → among q ≡ false → (IsPlace p n q m → ⊥) → w.entry q m ≡ v.entry q m
   pub opened : (y : ℕ) → w.opened y ≡ v.opened y
 
-pub record CanUproot (v : Shape) (p : ℕ) (n : List ℕ) (x : ℕ) (among : ℕ → Bool) : Type 0 where
+pub record MayUproot (v : Shape) (p : ℕ) (n : List ℕ) (x : ℕ) (among : ℕ → Bool) : Type 0 where
   pub names : v.entry p n ≡ Some x
   pub folder : v.kind x ≡ Some kinds.Directory
   pub other : IsPlace root lost_and_found p n → ⊥
@@ -35,62 +36,48 @@ left_entry v w p n among uproots q y m is false out =
     ]
 
 -- a directory that an entry outside names is outside
-folder_out : (v : Shape) (p x : ℕ) (n : List ℕ) (among : ℕ → Bool) → CanUproot v p n x among → Grown NoneGoes v → (q y : ℕ) (m : List ℕ) → v.kind y ≡ Some kinds.Directory → v.entry q m ≡ Some y
+folder_out : (v : Shape) (p x : ℕ) (n : List ℕ) (among : ℕ → Bool) → MayUproot v p n x among → Grown NoneGoes v → (q y : ℕ) (m : List ℕ) → v.kind y ≡ Some kinds.Directory → v.entry q m ≡ Some y
     → among q ≡ false → (IsPlace p n q m → ⊥) → (test : Bool) → among y ≡ test → among y ≡ false
 folder_out v p x n among can grown q y m folder names out differs false test = test
 folder_out v p x n among can grown q y m folder names out differs true test =
     elim (can.below.up y test) [
       | inl same ↦ absurd (differs (grown.once p q y n m folder (can.names ∙ ap Some (sym same)) names))
       | inr from ↦
-          let both_ways : true ≡ false = sym from.2 ∙ ap among (sym (grown.once from.0 q y from.1 m folder from.3 names).0) ∙ out in
-          absurd (cc both_ways)
+          absurd (both_ways _ (ap among (sym (grown.once from.0 q y from.1 m folder from.3 names).0) ∙ out) from.2)
     ]
 
-leads_left : (v w : Shape) (p x : ℕ) (n : List ℕ) (among : ℕ → Bool) → Uproots v w p n among → CanUproot v p n x among → (steps y : ℕ) → among y ≡ false → Leads v.entry steps y → Leads w.entry steps y
+leads_left : (v w : Shape) (p x : ℕ) (n : List ℕ) (among : ℕ → Bool) → Uproots v w p n among → MayUproot v p n x among → (steps y : ℕ) → among y ≡ false → Leads v.entry steps y → Leads w.entry steps y
 leads_left v w p x n among uproots can zero y out leads = leads
 leads_left v w p x n among uproots can (suc steps) y out leads =
-    let out_too : among leads.0 ≡ false = outside v x among can.below leads.0 y leads.1 out leads.2 in
+    let out_too : among leads.0 ≡ false = outside_above v x among can.below leads.0 y leads.1 out leads.2 in
     let differs : IsPlace p n leads.0 leads.1 → ⊥ = λ same.
-    let both_ways : true ≡ false = sym can.below.itself ∙ ap among (sym (one_entry v.entry p n leads.0 leads.1 x y same can.names leads.2)) ∙ out in
-    cc both_ways in
+    both_ways _ (ap among (sym (one_entry v.entry p n leads.0 leads.1 x y same can.names leads.2)) ∙ out) can.below.itself in
     (leads.0, leads.1, uproots.rest leads.0 leads.1 out_too differs ∙ leads.2, leads_left v w p x n among uproots can steps leads.0 out_too leads.3)
-
-root_out : (v : Shape) (p x : ℕ) (n : List ℕ) (among : ℕ → Bool) → CanUproot v p n x among → Grown NoneGoes v → (test : Bool) → among root ≡ test → among root ≡ false
-root_out v p x n among can grown true test = absurd (grown.top p n (can.names ∙ ap Some (root_inside NoneGoes v x among can.below grown test)))
-root_out v p x n among can grown false test = test
 
 -- the kind that a node had, and whether it was outside
 kind_was : (v w : Shape) (p : ℕ) (n : List ℕ) (among : ℕ → Bool) → Uproots v w p n among → (y : ℕ) (k : Kind) → w.kind y ≡ Some k → (test : Bool) → among y ≡ test → v.kind y ≡ Some k
 kind_was v w p n among uproots y k is true within = (uproots.inside_kind y k within is).0
 kind_was v w p n among uproots y k is false out = sym (uproots.outside_kind y out) ∙ is
 
-folder_was_out : (v w : Shape) (p : ℕ) (n : List ℕ) (among : ℕ → Bool) → Uproots v w p n among → (y : ℕ) → w.kind y ≡ Some kinds.Directory → (test : Bool) → among y ≡ test → among y ≡ false
-folder_was_out v w p n among uproots y is true within = absurd ((uproots.inside_kind y kinds.Directory within is).1 refl)
-folder_was_out v w p n among uproots y is false out = out
-
-named_stays : (v w : Shape) (p x : ℕ) (n : List ℕ) (among : ℕ → Bool) → Uproots v w p n among → CanUproot v p n x among → Grown NoneGoes v → (q y : ℕ) (m : List ℕ) → w.entry q m ≡ Some y → (k : Kind)
+named_stays : (v w : Shape) (p x : ℕ) (n : List ℕ) (among : ℕ → Bool) → Uproots v w p n among → MayUproot v p n x among → Grown NoneGoes v → (q y : ℕ) (m : List ℕ) → w.entry q m ≡ Some y → (k : Kind)
     → v.kind y ≡ Some k → (test : Bool) → among y ≡ test → w.kind y ≡ Some k
 named_stays v w p x n among uproots can grown q y m is k kind false out = uproots.outside_kind y out ∙ kind
 named_stays v w p x n among uproots can grown q y m is kinds.Directory kind true within =
     let old = left_entry v w p n among uproots q y m is (among q) refl in
-    let both_ways : true ≡ false = sym within ∙ folder_out v p x n among can grown q y m kind old.2 old.0 old.1 (among y) refl in
-    absurd (cc both_ways)
+    absurd (both_ways _ (folder_out v p x n among can grown q y m kind old.2 old.0 old.1 (among y) refl) within)
 named_stays v w p x n among uproots can grown q y m is kinds.Regular kind true within = uproots.stays y kinds.Regular within kind (λ same. cc same) (inl (q, m, is))
 named_stays v w p x n among uproots can grown q y m is kinds.Link kind true within = uproots.stays y kinds.Link within kind (λ same. cc same) (inl (q, m, is))
 
-orphan_left : (v w : Shape) (p x : ℕ) (n : List ℕ) (among : ℕ → Bool) → Uproots v w p n among → CanUproot v p n x among → Grown NoneGoes v → (y : ℕ) (k : Kind) → w.kind y ≡ Some k → y ≢ root
+orphan_left : (v w : Shape) (p x : ℕ) (n : List ℕ) (among : ℕ → Bool) → Uproots v w p n among → MayUproot v p n x among → Grown NoneGoes v → (y : ℕ) (k : Kind) → w.kind y ≡ Some k → y ≢ root
     → IsUnnamed w y → (test : Bool) → among y ≡ test → (k ≡ kinds.Regular) × (w.opened y ≡ true)
 orphan_left v w p x n among uproots can grown y k is inner alone true within =
     let opened : w.opened y ≡ true = uproots.lives y k within is alone in
-    let both_ways : Some k ≡ Some kinds.Regular = sym (uproots.inside_kind y k within is).0 ∙ grown.handles y (sym (uproots.opened y) ∙ opened) in
-    let regular : k ≡ kinds.Regular = cc both_ways in
-    (regular, opened)
+    (one_some _ k kinds.Regular (uproots.inside_kind y k within is).0 (grown.handles y (sym (uproots.opened y) ∙ opened)), opened)
 orphan_left v w p x n among uproots can grown y k is inner alone false out =
     let unnamed : IsUnnamed v y = λ q m names.
     let differs : IsPlace p n q m → ⊥ = λ same.
-    let both_ways : true ≡ false = sym can.below.itself ∙ ap among (sym (one_entry v.entry p n q m x y same can.names names)) ∙ out in
-    cc both_ways in
-    alone q m (uproots.rest q m (outside v x among can.below q y m out names) differs ∙ names) in
+    both_ways _ (ap among (sym (one_entry v.entry p n q m x y same can.names names)) ∙ out) can.below.itself in
+    alone q m (uproots.rest q m (outside_above v x among can.below q y m out names) differs ∙ names) in
     let found = grown.orphans y k (λ no. no) (sym (uproots.outside_kind y out) ∙ is) inner unnamed in
     (found.0, uproots.opened y ∙ found.1)
 
@@ -99,9 +86,9 @@ opened_stays : (v w : Shape) (p : ℕ) (n : List ℕ) (among : ℕ → Bool) →
 opened_stays v w p n among uproots y kind is true within = uproots.stays y kinds.Regular within kind (λ same. cc same) (inr is)
 opened_stays v w p n among uproots y kind is false out = uproots.outside_kind y out ∙ kind
 
-pub uprooted : (v w : Shape) (p x : ℕ) (n : List ℕ) (among : ℕ → Bool) → Uproots v w p n among → CanUproot v p n x among → Grown NoneGoes v → Grown NoneGoes w
-uprooted v w p x n among uproots can grown =
-    let root_is_out : among root ≡ false = root_out v p x n among can grown (among root) refl in
+pub Grown-uprooted : (v w : Shape) (p x : ℕ) (n : List ℕ) (among : ℕ → Bool) → Uproots v w p n among → MayUproot v p n x among → Grown NoneGoes v → Grown NoneGoes w
+Grown-uprooted v w p x n among uproots can grown =
+    let root_is_out : among root ≡ false = false_from_ne_true (among root) (λ within. grown.top p n (can.names ∙ ap Some (root_inside NoneGoes v x among can.below grown within))) in
     let keep_differs : IsPlace p n root lost_and_found → ⊥ = λ same. can.other (sym same.0, sym same.1) in
     let old : (q y : ℕ) (m : List ℕ) → w.entry q m ≡ Some y → v.entry q m ≡ Some y = λ q y m is. (left_entry v w p n among uproots q y m is (among q) refl).2 in
     record {
@@ -121,7 +108,7 @@ uprooted v w p x n among uproots can grown =
       once = λ q r y m l is first second. grown.once q r y m l (kind_was v w p n among uproots y _ is (among y) refl) (old q y m first) (old r y l second);
       leads = λ y stays is.
           let way = grown.leads y (λ no. no) (kind_was v w p n among uproots y _ is (among y) refl) in
-          (way.0, leads_left v w p x n among uproots can way.0 y (folder_was_out v w p n among uproots y is (among y) refl) way.1);
+          (way.0, leads_left v w p x n among uproots can way.0 y (false_from_ne_true (among y) (λ within. (uproots.inside_kind y kinds.Directory within is).1 refl)) way.1);
       orphans = λ y k stays is inner alone. orphan_left v w p x n among uproots can grown y k is inner alone (among y) refl;
       handles = λ y is. opened_stays v w p n among uproots y (grown.handles y (sym (uproots.opened y) ∙ is)) is (among y) refl;
       bare = λ y goes. absurd goes;
@@ -159,13 +146,13 @@ pub record Copies (v w : Shape) (p : ℕ) (n : List ℕ) (source : ℕ) (among :
   pub from_entry : (q z : ℕ) (m : List ℕ) → w.entry q m ≡ Some z → (IsPlace p n q m × (z ≡ copy source)) ⊎ ((v.entry q m ≡ Some z) ⊎ IsCopiedEntry v among copy q m z)
   pub opened : (y : ℕ) → w.opened y ≡ v.opened y
 
-pub record CanCopy (v : Shape) (p source : ℕ) (among : ℕ → Bool) : Type 0 where
+pub record MayCopy (v : Shape) (p source : ℕ) (among : ℕ → Bool) : Type 0 where
   pub folder : v.kind source ≡ Some kinds.Directory
   pub parent : v.kind p ≡ Some kinds.Directory
   pub below : IsBelow v source among
 
 -- the entries of a node that was there are the old ones
-old_named : (v w : Shape) (p source : ℕ) (n : List ℕ) (among : ℕ → Bool) (copy : ℕ → ℕ) → Copies v w p n source among copy → CanCopy v p source among → (q z : ℕ) (m : List ℕ) (k : Kind)
+old_named : (v w : Shape) (p source : ℕ) (n : List ℕ) (among : ℕ → Bool) (copy : ℕ → ℕ) → Copies v w p n source among copy → MayCopy v p source among → (q z : ℕ) (m : List ℕ) (k : Kind)
     → v.kind z ≡ Some k → w.entry q m ≡ Some z → v.entry q m ≡ Some z
 old_named v w p source n among copy copies can q z m k kind is =
     elim (copies.from_entry q z m is) [
@@ -180,7 +167,7 @@ old_named v w p source n among copy copies can q z m k kind is =
 abbrev NamesCopy : (v : Shape) (p : ℕ) (n : List ℕ) (source : ℕ) (among : ℕ → Bool) (copy : ℕ → ℕ) (y q : ℕ) (m : List ℕ) → Type 0
 NamesCopy v p n source among copy y q m = (IsPlace p n q m × (y ≡ source)) ⊎ ((r : ℕ) × (among r ≡ true) × (q ≡ copy r) × (v.entry r m ≡ Some y))
 
-names_copy : (v w : Shape) (p source : ℕ) (n : List ℕ) (among : ℕ → Bool) (copy : ℕ → ℕ) → Copies v w p n source among copy → CanCopy v p source among → Grown NoneGoes v → (y q z : ℕ) (m : List ℕ)
+names_copy : (v w : Shape) (p source : ℕ) (n : List ℕ) (among : ℕ → Bool) (copy : ℕ → ℕ) → Copies v w p n source among copy → MayCopy v p source among → Grown NoneGoes v → (y q z : ℕ) (m : List ℕ)
     → among y ≡ true → z ≡ copy y → w.entry q m ≡ Some z → NamesCopy v p n source among copy y q m
 names_copy v w p source n among copy copies can grown y q z m within same is =
     elim (copies.from_entry q z m is) [
@@ -196,7 +183,7 @@ names_copy v w p source n among copy copies can grown y q z m within same is =
       ]
     ]
 
-both_copies : (v w : Shape) (p source : ℕ) (n : List ℕ) (among : ℕ → Bool) (copy : ℕ → ℕ) → CanCopy v p source among → Grown NoneGoes v → (y q r : ℕ) (m l : List ℕ) → v.kind y ≡ Some kinds.Directory
+both_copies : (v w : Shape) (p source : ℕ) (n : List ℕ) (among : ℕ → Bool) (copy : ℕ → ℕ) → MayCopy v p source among → Grown NoneGoes v → (y q r : ℕ) (m l : List ℕ) → v.kind y ≡ Some kinds.Directory
     → NamesCopy v p n source among copy y q m → NamesCopy v p n source among copy y r l → (r ≡ q) × (l ≡ m)
 both_copies v w p source n among copy can grown y q r m l folder (inl first) (inl second) = (second.0.0 ∙ sym first.0.0, second.0.1 ∙ sym first.0.1)
 both_copies v w p source n among copy can grown y q r m l folder (inl first) (inr second) =
@@ -207,8 +194,8 @@ both_copies v w p source n among copy can grown y q r m l folder (inr first) (in
     let one = grown.once first.0 second.0 y m l folder first.3 second.3 in
     (second.2 ∙ ap copy one.0 ∙ sym first.2, one.1)
 
-pub copied : (v w : Shape) (p source : ℕ) (n : List ℕ) (among : ℕ → Bool) (copy : ℕ → ℕ) → Copies v w p n source among copy → CanCopy v p source among → Grown NoneGoes v → Grown NoneGoes w
-copied v w p source n among copy copies can grown = record {
+pub Grown-copied : (v w : Shape) (p source : ℕ) (n : List ℕ) (among : ℕ → Bool) (copy : ℕ → ℕ) → Copies v w p n source among copy → MayCopy v p source among → Grown NoneGoes v → Grown NoneGoes w
+Grown-copied v w p source n among copy copies can grown = record {
   rooted = copies.old_kind root kinds.Directory grown.rooted;
   top = λ q m is. grown.top q m (old_named v w p source n among copy copies can q root m kinds.Directory grown.rooted is);
   kept = (grown.kept.0, copies.old_entry root grown.kept.0 lost_and_found grown.kept.1, copies.old_kind grown.kept.0 kinds.Directory grown.kept.2);
@@ -250,7 +237,7 @@ copied v w p source n among copy copies can grown = record {
             let way = grown.leads copy_is.of (λ no. no) copy_is.kind in
             let above = grown.leads p (λ no. no) can.parent in
             let up : (more : ℕ) × Leads w.entry more (copy copy_is.of) =
-            downwards NoneGoes v source among can.below grown (λ y. (more : ℕ) × Leads w.entry more (copy y)) (suc above.0, (p, n, copies.here, leads_on v.entry w.entry copies.old_entry above.0 p above.1))
+            holds_downwards NoneGoes v source among can.below grown (λ y. (more : ℕ) × Leads w.entry more (copy y)) (suc above.0, (p, n, copies.here, leads_on v.entry w.entry copies.old_entry above.0 p above.1))
             (λ q y m within apart names up. (suc up.0, (copy q, m, copies.new_entry q y m within names, up.1))) way.0 copy_is.of way.1 copy_is.kind copy_is.within in
             (up.0, subst (Leads w.entry up.0) (sym copy_is.is) up.1)
       ];

@@ -1,59 +1,23 @@
 -- The shape of a tree from its definition, and back.
-use Rattle.std.proofs.Common.{◌≡◌, ◌≢◌, ℕ, zero, suc, List, Bool, true, false, Option, None, Some, IsSome, refl, sym, ap, ◌∙◌}
+use Rattle.std.proofs.Common.{◌≡◌, ◌≢◌, ℕ, zero, suc, List, true, Option, None, Some, IsSome, refl, ap, ◌∙◌}
+use Rattle.std.proofs.lemmas.Bool.{both_ways}
 use Rattle.std.specs.Prelude.{option_and_then}
-use Rattle.s3_base.specs.declared.node_kind.Kind.{Kind}
 use Rattle.s3_base.specs.declared.node_kind.Kind.TheVariants as kinds
-use Rattle.plain_tree.specs.Attributes.{kind_of}
 use Rattle.plain_tree.specs.Checks.{name_check}
-use Rattle.plain_tree.specs.Entries.{is_directory, is_folder, entry_at, is_named}
-use Rattle.plain_tree.specs.Tree.{Content, Regular, Directory, Link, Node, Tree, root, lost_and_found, node_at, entry_of}
-use Rattle.plain_tree.specs.WellFormed.{is_file, entries_naming, LeadsToRoot, HasOneTree, HasNoOrphans}
+use Rattle.plain_tree.specs.Entries.{is_folder, entry_at}
 use Rattle.plain_tree.specs.Names.{NamesInOrder}
 use Rattle.plain_tree.specs.Numbers.{InOrder}
+use Rattle.plain_tree.specs.Tree.{Tree, root, lost_and_found, node_at}
+use Rattle.plain_tree.specs.WellFormed.{entries_naming, LeadsToRoot, HasOneTree, HasNoOrphans}
+use Rattle.tree_laws.proofs.Node.Kind.{one_some, kind_in, some_kind, kind_there, folder_kind, is_a_folder, file_kind, is_a_file, holds_kind}
 use Rattle.tree_laws.proofs.Shape.Count.{sum_one}
+use Rattle.tree_laws.proofs.Shape.Named.{unnamed_by, not_named, is_named_by}
 use Rattle.tree_laws.proofs.Shape.Once.{named_once}
-use Rattle.tree_laws.proofs.Rename.Shape.{is_a_folder}
-use Rattle.tree_laws.proofs.Shape.Words.{Leads, IsUnnamed, Grown, NoneGoes}
 use Rattle.tree_laws.proofs.Shape.Steps.{Sound}
-use Rattle.tree_laws.proofs.Shape.Tree.{kind_in, entry_in, shape_of, not_named, is_named_by}
+use Rattle.tree_laws.proofs.Shape.Tree.{shape_of}
+use Rattle.tree_laws.proofs.Shape.Words.{Leads, Grown, NoneGoes}
 
 -- ---- kinds
-
-content_kind : (content : Content) → is_directory content ≡ true → kind_of content ≡ kinds.Directory
-content_kind (Directory entries) is = refl
-content_kind (Regular bytes) is = absurd (cc is)
-content_kind (Link target) is = absurd (cc is)
-
-folder_kind : (found : Option Node) → is_folder found ≡ true → kind_in found ≡ Some kinds.Directory
-folder_kind None is = absurd (cc is)
-folder_kind (Some node) is = ap Some (content_kind node.content is)
-
-content_file : (content : Content) → elim content as (λ _. Bool) [ Regular bytes ↦ true | Directory entries ↦ false | Link target ↦ false ] ≡ true → kind_of content ≡ kinds.Regular
-content_file (Regular bytes) is = refl
-content_file (Directory entries) is = absurd (cc is)
-content_file (Link target) is = absurd (cc is)
-
-file_kind : (found : Option Node) → is_file found ≡ true → kind_in found ≡ Some kinds.Regular
-file_kind None is = absurd (cc is)
-file_kind (Some node) is = ap Some (content_file node.content is)
-
-kind_some : (found : Option Node) (k : Kind) → kind_in found ≡ Some k → IsSome found
-kind_some None k is = absurd (cc is)
-kind_some (Some node) k is = refl
-
-some_kind : (found : Option Node) → IsSome found → (k : Kind) × (kind_in found ≡ Some k)
-some_kind None is = absurd (cc is)
-some_kind (Some node) is = (kind_of node.content, refl)
-
--- what has an entry is a directory
-content_holds : (content : Content) (n : List ℕ) (x : ℕ) → entry_of content n ≡ Some x → kind_of content ≡ kinds.Directory
-content_holds (Directory entries) n x is = refl
-content_holds (Regular bytes) n x is = absurd (cc is)
-content_holds (Link target) n x is = absurd (cc is)
-
-pub holds_kind : (found : Option Node) (n : List ℕ) (x : ℕ) → entry_in n found ≡ Some x → kind_in found ≡ Some kinds.Directory
-holds_kind None n x is = absurd (cc is)
-holds_kind (Some node) n x is = ap Some (content_holds node.content n x is)
 
 -- ---- from the definition
 
@@ -65,11 +29,10 @@ pub record Rooted (t : Tree) : Type 0 where
 
 pub root_unnamed : (t : Tree) → HasOneTree t → (p : ℕ) (n : List ℕ) → entry_at t p n ≡ Some root → ⊥
 root_unnamed t tree p n is =
-    let both_ways : true ≡ false = sym (is_named_by t root p n is) ∙ tree.root_is_unnamed in
-    cc both_ways
+    both_ways _ tree.root_is_unnamed (is_named_by t root p n is)
 
-pub one_place : (t : Tree) → HasOneTree t → (p q x : ℕ) (n m : List ℕ) → kind_in (node_at t x) ≡ Some kinds.Directory → entry_at t p n ≡ Some x → entry_at t q m ≡ Some x → (q ≡ p) × (m ≡ n)
-one_place t tree p q x n m folder first second =
+pub named_at_one_place : (t : Tree) → HasOneTree t → (p q x : ℕ) (n m : List ℕ) → kind_in (node_at t x) ≡ Some kinds.Directory → entry_at t p n ≡ Some x → entry_at t q m ≡ Some x → (q ≡ p) × (m ≡ n)
+named_at_one_place t tree p q x n m folder first second =
     named_once t x p q n m (tree.once x (is_a_folder (node_at t x) folder) (λ same. root_unnamed t tree p n (first ∙ ap Some same))) first second
 
 pub from_root : (t : Tree) (steps x : ℕ) → LeadsToRoot t steps x → Leads (entry_at t) steps x
@@ -93,13 +56,11 @@ grown_of t ordered names tree files = record {
   kept = kept_of t (entry_at t root lost_and_found) refl tree.keeps_lost_and_found;
   holds = λ p x n is. holds_kind (node_at t p) n x is;
   there = λ p x n is. some_kind (node_at t x) (tree.entries p x n is);
-  once = λ p q x n m folder first second. one_place t tree p q x n m folder first second;
+  once = λ p q x n m folder first second. named_at_one_place t tree p q x n m folder first second;
   leads = λ x stays folder. way_up t tree x folder;
   orphans = λ x k stays kind inner unnamed.
-      let found = files.orphans x (kind_some (node_at t x) k kind) inner (not_named t ordered names x unnamed (is_named t x) refl) in
-      let both_ways : Some k ≡ Some kinds.Regular = sym kind ∙ file_kind (node_at t x) found.0 in
-      let file : k ≡ kinds.Regular = cc both_ways in
-      (file, found.1);
+      let found = files.orphans x (kind_there (node_at t x) k kind) inner (not_named t ordered names x unnamed) in
+      (one_some _ k kinds.Regular kind (file_kind (node_at t x) found.0), found.1);
   handles = λ x opened. file_kind (node_at t x) (files.handles x opened);
   bare = λ x goes. absurd goes;
   empty = λ x n goes. absurd goes;
@@ -120,14 +81,14 @@ counted_once t sound x folder inner (suc steps) leads =
 pub named_there : (t : Tree) → Sound t → (p x : ℕ) (n : List ℕ) → entry_at t p n ≡ Some x → IsSome (node_at t x)
 named_there t sound p x n is =
     let found = sound.grown.there p x n is in
-    kind_some (node_at t x) found.0 found.1
+    kind_there (node_at t x) found.0 found.1
 
 pub tree_of : (t : Tree) → Sound t → ((p x : ℕ) (n : List ℕ) → entry_at t p n ≡ Some x → name_check n ≡ None) → HasOneTree t
 tree_of t sound legal =
     let grown : Grown NoneGoes (shape_of t) = sound.grown in
     record {
       is_rooted = is_a_folder (node_at t root) grown.rooted;
-      root_is_unnamed = not_named t sound.ordered sound.names root grown.top (is_named t root) refl;
+      root_is_unnamed = not_named t sound.ordered sound.names root grown.top;
       keeps_lost_and_found = ap (λ x. is_folder (option_and_then (node_at t) x)) grown.kept.1 ∙ is_a_folder (node_at t grown.kept.0) grown.kept.2;
       entries = λ p x n is. named_there t sound p x n is;
       names = λ p x n is. legal p x n is;
@@ -139,23 +100,6 @@ tree_of t sound legal =
           let way = grown.leads x (λ none. none) (folder_kind (node_at t x) folder) in
           (way.0, to_root t way.0 x way.1);
     }
-
-regular_content : (content : Content) → kind_of content ≡ kinds.Regular
-    → elim content as (λ _. Bool) [ Regular bytes ↦ true | Directory entries ↦ false | Link target ↦ false ] ≡ true
-regular_content (Regular bytes) is = refl
-regular_content (Directory entries) is = absurd (cc is)
-regular_content (Link target) is = absurd (cc is)
-
-is_a_file : (found : Option Node) → kind_in found ≡ Some kinds.Regular → is_file found ≡ true
-is_a_file None is = absurd (cc is)
-is_a_file (Some node) is =
-    let same : kind_of node.content ≡ kinds.Regular = cc is in
-    regular_content node.content same
-
-unnamed_by : (t : Tree) (x : ℕ) → is_named t x ≡ false → IsUnnamed (shape_of t) x
-unnamed_by t x none p n is =
-    let both_ways : true ≡ false = sym (is_named_by t x p n is) ∙ none in
-    cc both_ways
 
 pub orphans_of : (t : Tree) → Sound t → HasNoOrphans t
 orphans_of t sound = record {

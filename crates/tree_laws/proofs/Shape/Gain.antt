@@ -1,41 +1,11 @@
 -- Entries and nodes that come or move, and the tree of names that comes of it.
 use Rattle.std.proofs.Common.{◌≡◌, ◌≢◌, ℕ, zero, suc, List, Bool, true, false, None, Some, refl, sym, ap, ◌∙◌, ◌⊎◌, inl, inr, subst}
-use Rattle.std.proofs.lemmas.Bool.{cases_eq}
+use Rattle.std.proofs.lemmas.Bool.{false_from_ne_true, cases_eq, both_ways}
 use Rattle.s3_base.specs.declared.node_kind.Kind.{Kind}
 use Rattle.s3_base.specs.declared.node_kind.Kind.TheVariants as kinds
 use Rattle.plain_tree.specs.Tree.{root, lost_and_found}
-use Rattle.tree_laws.proofs.Shape.Loss.{none_some}
+use Rattle.tree_laws.proofs.Node.Kind.{one_some, none_some}
 use Rattle.tree_laws.proofs.Shape.Words.{Shape, Leads, Grown, NoneGoes, IsPlace, cases_place, one_entry, not_there, leads_on}
-
--- ---- a handle that is opened
-
-pub record Opens (v w : Shape) : Type 0 where
-  pub kind : (y : ℕ) → w.kind y ≡ v.kind y
-  pub entry : (q : ℕ) (m : List ℕ) → w.entry q m ≡ v.entry q m
-  pub was : (y : ℕ) → w.opened y ≡ true → v.kind y ≡ Some kinds.Regular
-  pub stays : (y : ℕ) → v.opened y ≡ true → w.opened y ≡ true
-
-pub opened : (v w : Shape) → Opens v w → Grown NoneGoes v → Grown NoneGoes w
-opened v w opens grown = record {
-  rooted = opens.kind root ∙ grown.rooted;
-  top = λ q m is. grown.top q m (sym (opens.entry q m) ∙ is);
-  kept = (grown.kept.0, opens.entry root lost_and_found ∙ grown.kept.1, opens.kind grown.kept.0 ∙ grown.kept.2);
-  holds = λ q y m is. opens.kind q ∙ grown.holds q y m (sym (opens.entry q m) ∙ is);
-  there = λ q y m is.
-      let found = grown.there q y m (sym (opens.entry q m) ∙ is) in
-      (found.0, opens.kind y ∙ found.1);
-  once = λ q r y m l is first second. grown.once q r y m l (sym (opens.kind y) ∙ is) (sym (opens.entry q m) ∙ first) (sym (opens.entry r l) ∙ second);
-  leads = λ y stays is.
-      let way = grown.leads y (λ no. no) (sym (opens.kind y) ∙ is) in
-      (way.0, leads_on v.entry w.entry (λ q z m names. opens.entry q m ∙ names) way.0 y way.1);
-  orphans = λ y k stays is inner alone.
-      let found = grown.orphans y k (λ no. no) (sym (opens.kind y) ∙ is) inner (λ q m names. alone q m (opens.entry q m ∙ names)) in
-      (found.0, opens.stays y found.1);
-  handles = λ y is. opens.kind y ∙ opens.was y is;
-  bare = λ y goes. absurd goes;
-  empty = λ y m goes. absurd goes;
-  inner = λ y goes. absurd goes;
-}
 
 -- ---- a new node, or a new name of a file
 
@@ -73,9 +43,7 @@ only_new v w p x n k adds grown q y m same folder is =
           let old : v.entry q m ≡ Some x = sym (adds.rest q m differs) ∙ is ∙ ap Some same in
           elim adds.was [
             | inl was ↦
-                let both_ways : Some k ≡ Some kinds.Directory = sym adds.is ∙ ap w.kind (sym same) ∙ folder in
-                let directory : k ≡ kinds.Directory = cc both_ways in
-                absurd (was.1 directory)
+                absurd (was.1 (one_some _ k kinds.Directory adds.is (ap w.kind (sym same) ∙ folder)))
             | inr new ↦
                 let found = grown.there q x m old in
                 absurd (none_some _ found.0 new found.1)
@@ -90,15 +58,13 @@ old_entry v w p x n k adds q y m apart is =
       | inr differs ↦ sym (adds.rest q m differs) ∙ is
     ]
 
-pub added : (v w : Shape) (p x : ℕ) (n : List ℕ) (k : Kind) → Adds v w p n x k → Grown NoneGoes v → v.entry p n ≡ None → v.kind p ≡ Some kinds.Directory → Grown NoneGoes w
-added v w p x n k adds grown free parent =
+pub Grown-added : (v w : Shape) (p x : ℕ) (n : List ℕ) (k : Kind) → Adds v w p n x k → Grown NoneGoes v → v.entry p n ≡ None → v.kind p ≡ Some kinds.Directory → Grown NoneGoes w
+Grown-added v w p x n k adds grown free parent =
     let on : (q y : ℕ) (m : List ℕ) → v.entry q m ≡ Some y → w.entry q m ≡ Some y = λ q y m is. more v w p x n k adds free q y m is in
     let keeps : (y : ℕ) (j : Kind) → v.kind y ≡ Some j → w.kind y ≡ Some j = λ y j is. kind_stays v w p x n k adds y j is in
     let inner : x ≢ root = λ same. elim adds.was [
       | inl old ↦
-          let both_ways : Some k ≡ Some kinds.Directory = sym old.0 ∙ ap v.kind same ∙ grown.rooted in
-          let directory : k ≡ kinds.Directory = cc both_ways in
-          old.1 directory
+          old.1 (one_some _ k kinds.Directory old.0 (ap v.kind same ∙ grown.rooted))
       | inr new ↦ none_some _ kinds.Directory new (ap v.kind same ∙ grown.rooted)
     ] in
     record {
@@ -159,20 +125,14 @@ pub record IsBelow (v : Shape) (x : ℕ) (among : ℕ → Bool) : Type 0 where
   pub down : (q y : ℕ) (m : List ℕ) → among q ≡ true → v.entry q m ≡ Some y → among y ≡ true
   pub up : (y : ℕ) → among y ≡ true → (y ≡ x) ⊎ ((q : ℕ) × (m : List ℕ) × (among q ≡ true) × (v.entry q m ≡ Some y))
 
-not_among : (v : Shape) (x : ℕ) (among : ℕ → Bool) → IsBelow v x among → (q y : ℕ) (m : List ℕ) → among y ≡ false → v.entry q m ≡ Some y → (test : Bool) → among q ≡ test → among q ≡ false
-not_among v x among below q y m out names true test =
-    let both_ways : true ≡ false = sym (below.down q y m test names) ∙ out in
-    absurd (cc both_ways)
-not_among v x among below q y m out names false test = test
-
 -- what names a node outside is outside
-pub outside : (v : Shape) (x : ℕ) (among : ℕ → Bool) → IsBelow v x among → (q y : ℕ) (m : List ℕ) → among y ≡ false → v.entry q m ≡ Some y → among q ≡ false
-outside v x among below q y m out names = not_among v x among below q y m out names (among q) refl
+pub outside_above : (v : Shape) (x : ℕ) (among : ℕ → Bool) → IsBelow v x among → (q y : ℕ) (m : List ℕ) → among y ≡ false → v.entry q m ≡ Some y → among q ≡ false
+outside_above v x among below q y m out names = false_from_ne_true (among q) (λ within. both_ways _ out (below.down q y m within names))
 
 -- what names a directory inside, other than the first, is inside
-pub inside : (but : ℕ → Type 0) (v : Shape) (x : ℕ) (among : ℕ → Bool) → IsBelow v x among → Grown but v → (q y : ℕ) (m : List ℕ) → y ≢ x → v.kind y ≡ Some kinds.Directory → among y ≡ true
+pub inside_above : (but : ℕ → Type 0) (v : Shape) (x : ℕ) (among : ℕ → Bool) → IsBelow v x among → Grown but v → (q y : ℕ) (m : List ℕ) → y ≢ x → v.kind y ≡ Some kinds.Directory → among y ≡ true
     → v.entry q m ≡ Some y → among q ≡ true
-inside but v x among below grown q y m apart folder within names =
+inside_above but v x among below grown q y m apart folder within names =
     elim (below.up y within) [
       | inl same ↦ absurd (apart same)
       | inr from ↦ ap among (grown.once from.0 q y from.1 m folder from.3 names).0 ∙ from.2
@@ -187,17 +147,17 @@ root_inside but v x among below grown within =
     ]
 
 -- what holds of the first, and passes from a directory to a directory that it names, holds of each directory inside
-pub downwards : (but : ℕ → Type 0) (v : Shape) (x : ℕ) (among : ℕ → Bool) → IsBelow v x among → Grown but v → (Q : ℕ → Type 0) → Q x
+pub holds_downwards : (but : ℕ → Type 0) (v : Shape) (x : ℕ) (among : ℕ → Bool) → IsBelow v x among → Grown but v → (Q : ℕ → Type 0) → Q x
     → ((q y : ℕ) (m : List ℕ) → among q ≡ true → y ≢ x → v.entry q m ≡ Some y → Q q → Q y) → (steps y : ℕ) → Leads v.entry steps y → v.kind y ≡ Some kinds.Directory → among y ≡ true → Q y
-downwards but v x among below grown Q first next zero y leads folder within =
+holds_downwards but v x among below grown Q first next zero y leads folder within =
     subst Q (root_inside but v x among below grown (ap among (sym leads) ∙ within) ∙ sym leads) first
-downwards but v x among below grown Q first next (suc steps) y leads folder within =
+holds_downwards but v x among below grown Q first next (suc steps) y leads folder within =
     elim (cases_eq y x) [
       | inl same ↦ subst Q (sym same) first
       | inr apart ↦
-          let within_too : among leads.0 ≡ true = inside but v x among below grown leads.0 y leads.1 apart folder within leads.2 in
+          let within_too : among leads.0 ≡ true = inside_above but v x among below grown leads.0 y leads.1 apart folder within leads.2 in
           next leads.0 y leads.1 within_too apart leads.2
-          (downwards but v x among below grown Q first next steps leads.0 leads.3 (grown.holds leads.0 y leads.1 leads.2) within_too)
+          (holds_downwards but v x among below grown Q first next steps leads.0 leads.3 (grown.holds leads.0 y leads.1 leads.2) within_too)
     ]
 
 -- nothing inside names a first that is a directory
@@ -208,7 +168,7 @@ no_way but v x among below grown r l round names zero y leads folder within =
 no_way but v x among below grown r l round names (suc steps) y leads folder within =
     let within_too : among leads.0 ≡ true = elim (cases_eq y x) [
       | inl same ↦ ap among (grown.once r leads.0 y l leads.1 folder (names ∙ ap Some (sym same)) leads.2).0 ∙ round
-      | inr apart ↦ inside but v x among below grown leads.0 y leads.1 apart folder within leads.2
+      | inr apart ↦ inside_above but v x among below grown leads.0 y leads.1 apart folder within leads.2
     ] in
     no_way but v x among below grown r l round names steps leads.0 leads.3 (grown.holds leads.0 y leads.1 leads.2) within_too
 
@@ -227,7 +187,7 @@ pub record Moves (v w : Shape) (p : ℕ) (n : List ℕ) (np : ℕ) (nn : List �
   pub gone : w.entry p n ≡ None
   pub rest : (q : ℕ) (m : List ℕ) → (IsPlace p n q m → ⊥) → (IsPlace np nn q m → ⊥) → w.entry q m ≡ v.entry q m
 
-pub record CanMove (but : ℕ → Type 0) (v : Shape) (p : ℕ) (n : List ℕ) (np : ℕ) (nn : List ℕ) (x : ℕ) (among : ℕ → Bool) : Type 0 where
+pub record MayMove (but : ℕ → Type 0) (v : Shape) (p : ℕ) (n : List ℕ) (np : ℕ) (nn : List ℕ) (x : ℕ) (among : ℕ → Bool) : Type 0 where
   pub names : v.entry p n ≡ Some x
   pub free : v.entry np nn ≡ None
   pub folder : v.kind np ≡ Some kinds.Directory
@@ -248,7 +208,7 @@ before_move v w p np x n nn moves q y m apart is =
       ]
     ]
 
-after_move : (but : ℕ → Type 0) (v w : Shape) (p np x : ℕ) (n nn : List ℕ) (among : ℕ → Bool) → Moves v w p n np nn x → CanMove but v p n np nn x among → (q y : ℕ) (m : List ℕ) → y ≢ x
+after_move : (but : ℕ → Type 0) (v w : Shape) (p np x : ℕ) (n nn : List ℕ) (among : ℕ → Bool) → Moves v w p n np nn x → MayMove but v p n np nn x among → (q y : ℕ) (m : List ℕ) → y ≢ x
     → v.entry q m ≡ Some y → w.entry q m ≡ Some y
 after_move but v w p np x n nn among moves can q y m apart is =
     moves.rest q m (λ same. apart (one_entry v.entry p n q m x y same can.names is)) (λ same. not_there v.entry np nn q m y same can.free is) ∙ is
@@ -265,30 +225,29 @@ only_moved but v w p np x n nn moves grown names q y m same folder is =
       ]
     ]
 
-leads_outside : (but : ℕ → Type 0) (v w : Shape) (p np x : ℕ) (n nn : List ℕ) (among : ℕ → Bool) → Moves v w p n np nn x → CanMove but v p n np nn x among → (steps y : ℕ) → among y ≡ false
+leads_outside : (but : ℕ → Type 0) (v w : Shape) (p np x : ℕ) (n nn : List ℕ) (among : ℕ → Bool) → Moves v w p n np nn x → MayMove but v p n np nn x among → (steps y : ℕ) → among y ≡ false
     → Leads v.entry steps y → Leads w.entry steps y
 leads_outside but v w p np x n nn among moves can zero y out leads = leads
 leads_outside but v w p np x n nn among moves can (suc steps) y out leads =
     let apart : y ≢ x = λ same.
-    let both_ways : true ≡ false = sym can.below.itself ∙ ap among (sym same) ∙ out in
-    cc both_ways in (
+    both_ways _ (ap among (sym same) ∙ out) can.below.itself in (
       leads.0,
       leads.1,
       after_move but v w p np x n nn among moves can leads.0 y leads.1 apart leads.2,
-      leads_outside but v w p np x n nn among moves can steps leads.0 (outside v x among can.below leads.0 y leads.1 out leads.2) leads.3,
+      leads_outside but v w p np x n nn among moves can steps leads.0 (outside_above v x among can.below leads.0 y leads.1 out leads.2) leads.3,
     )
 
-leads_moved : (but : ℕ → Type 0) (v w : Shape) (p np x : ℕ) (n nn : List ℕ) (among : ℕ → Bool) → Moves v w p n np nn x → CanMove but v p n np nn x among → Grown but v → (steps y : ℕ)
+leads_moved : (but : ℕ → Type 0) (v w : Shape) (p np x : ℕ) (n nn : List ℕ) (among : ℕ → Bool) → Moves v w p n np nn x → MayMove but v p n np nn x among → Grown but v → (steps y : ℕ)
     → Leads v.entry steps y → v.kind y ≡ Some kinds.Directory → (test : Bool) → among y ≡ test → (more : ℕ) × Leads w.entry more y
 leads_moved but v w p np x n nn among moves can grown steps y leads folder false out = (steps, leads_outside but v w p np x n nn among moves can steps y out leads)
 leads_moved but v w p np x n nn among moves can grown steps y leads folder true within =
     let way = grown.leads np can.parent_stays can.folder in
-    downwards but v x among can.below grown (λ z. (more : ℕ) × Leads w.entry more z) (suc way.0, (np, nn, moves.here, leads_outside but v w p np x n nn among moves can way.0 np can.outside way.1))
+    holds_downwards but v x among can.below grown (λ z. (more : ℕ) × Leads w.entry more z) (suc way.0, (np, nn, moves.here, leads_outside but v w p np x n nn among moves can way.0 np can.outside way.1))
     (λ q z m inner apart names up. (suc up.0, (q, m, after_move but v w p np x n nn among moves can q z m apart names, up.1)))
     steps y leads folder within
 
-pub moved : (but : ℕ → Type 0) (v w : Shape) (p np x : ℕ) (n nn : List ℕ) (among : ℕ → Bool) → Moves v w p n np nn x → CanMove but v p n np nn x among → Grown but v → Grown but w
-moved but v w p np x n nn among moves can grown =
+pub Grown-moved : (but : ℕ → Type 0) (v w : Shape) (p np x : ℕ) (n nn : List ℕ) (among : ℕ → Bool) → Moves v w p n np nn x → MayMove but v p n np nn x among → Grown but v → Grown but w
+Grown-moved but v w p np x n nn among moves can grown =
     let not_root : root ≢ x = λ same. grown.top p n (can.names ∙ ap Some (sym same)) in
     record {
       rooted = moves.kind root ∙ grown.rooted;

@@ -1,21 +1,11 @@
 -- Entries and nodes that go, and the tree of names that is left.
 use Rattle.std.proofs.Common.{◌≡◌, ◌≢◌, ℕ, zero, suc, List, Bool, true, false, cond, Option, None, Some, refl, sym, ap, ◌∙◌, inl, inr}
-use Rattle.std.proofs.lemmas.Bool.{cases_eq}
+use Rattle.std.proofs.lemmas.Bool.{true_from_ne_false, cases_eq}
 use Rattle.s3_base.specs.declared.node_kind.Kind.{Kind}
 use Rattle.s3_base.specs.declared.node_kind.Kind.TheVariants as kinds
 use Rattle.plain_tree.specs.Tree.{root, lost_and_found}
-use Rattle.tree_laws.proofs.Shape.Words.{Shape, Leads, IsUnnamed, Grown, NoneGoes, Only, IsPlace, cases_place, one_entry, not_there, leads_on}
-
-none_if : (a b : Option ℕ) → ((z : ℕ) → b ≡ Some z → a ≡ Some z) → a ≡ None → b ≡ None
-none_if a None less none = refl
-none_if a (Some z) less none =
-    let both_ways : None ≡ Some z = sym none ∙ less z refl in
-    absurd (cc both_ways)
-
-pub none_some : {X : Type 0} (found : Option X) (x : X) → found ≡ None → found ≡ Some x → ⊥
-none_some found x none is =
-    let both_ways : None ≡ Some x = sym none ∙ is in
-    cc both_ways
+use Rattle.tree_laws.proofs.Node.Kind.{one_some, file_no_folder, none_from, none_some}
+use Rattle.tree_laws.proofs.Shape.Words.{Grown-reopened, Shape, Leads, IsUnnamed, Grown, NoneGoes, Only, IsPlace, cases_place, one_entry, not_there, leads_on}
 
 -- ---- an entry that goes
 
@@ -42,9 +32,9 @@ leads_past v w p x n unlinks names empty (suc steps) y apart leads = (
   leads_past v w p x n unlinks names empty steps leads.0 (λ same. none_some _ y (empty leads.1) (ap (λ k. v.entry k leads.1) (sym same) ∙ leads.2)) leads.3,
 )
 
-pub unlinked : (v w : Shape) (p x : ℕ) (n : List ℕ) → Unlinks v w p n → Grown NoneGoes v → v.entry p n ≡ Some x → (IsPlace root lost_and_found p n → ⊥) → ((m : List ℕ) → v.entry x m ≡ None)
+pub Grown-unlinked : (v w : Shape) (p x : ℕ) (n : List ℕ) → Unlinks v w p n → Grown NoneGoes v → v.entry p n ≡ Some x → (IsPlace root lost_and_found p n → ⊥) → ((m : List ℕ) → v.entry x m ≡ None)
     → Grown (Only x) w
-unlinked v w p x n unlinks grown names free empty = record {
+Grown-unlinked v w p x n unlinks grown names free empty = record {
   rooted = unlinks.kind root ∙ grown.rooted;
   top = λ q m is. grown.top q m (fewer v w p n unlinks q root m is);
   kept = (grown.kept.0, unlinks.rest root lost_and_found (λ same. free (sym same.0, sym same.1)) ∙ grown.kept.1, unlinks.kind grown.kept.0 ∙ grown.kept.2);
@@ -64,7 +54,7 @@ unlinked v w p x n unlinks grown names free empty = record {
   bare = λ y goes is q m also.
       let place = grown.once p q y n m (sym (unlinks.kind y) ∙ is) (names ∙ ap Some (sym goes)) (fewer v w p n unlinks q y m also) in
       not_there w.entry p n q m y place unlinks.gone also;
-  empty = λ y m goes. none_if (v.entry y m) (w.entry y m) (λ z is. fewer v w p n unlinks y z m is) (ap (λ k. v.entry k m) goes ∙ empty m);
+  empty = λ y m goes. none_from (w.entry y m) (λ z is. none_some _ z (ap (λ k. v.entry k m) goes ∙ empty m) (fewer v w p n unlinks y z m is));
   inner = λ y goes same. grown.top p n (names ∙ ap Some (sym goes ∙ same));
 }
 
@@ -91,8 +81,8 @@ same_entries v w x removes empty q m =
       | inr apart ↦ removes.entry q m apart
     ]
 
-pub removed : (v w : Shape) (x : ℕ) → Removes v w x → Grown (Only x) v → IsUnnamed v x → (v.opened x ≡ true → ⊥) → Grown NoneGoes w
-removed v w x removes grown unnamed closed =
+pub Grown-removed : (v w : Shape) (x : ℕ) → Removes v w x → Grown (Only x) v → IsUnnamed v x → (v.opened x ≡ true → ⊥) → Grown NoneGoes w
+Grown-removed v w x removes grown unnamed closed =
     let entry : (q : ℕ) (m : List ℕ) → w.entry q m ≡ v.entry q m = same_entries v w x removes (λ m. grown.empty x m refl) in
     let apart : (q y : ℕ) (m : List ℕ) → v.entry q m ≡ Some y → y ≢ x = λ q y m is same. unnamed q m (is ∙ ap Some same) in
     record {
@@ -123,8 +113,8 @@ removed v w x removes grown unnamed closed =
     }
 
 -- a node that was about to go stays, since an entry names it or it is open
-pub spared : (v : Shape) (x : ℕ) → Grown (Only x) v → (IsUnnamed v x → v.opened x ≡ true) → Grown NoneGoes v
-spared v x grown lives = record {
+pub Grown-spared : (v : Shape) (x : ℕ) → Grown (Only x) v → (IsUnnamed v x → v.opened x ≡ true) → Grown NoneGoes v
+Grown-spared v x grown lives = record {
   rooted = grown.rooted;
   top = grown.top;
   kept = grown.kept;
@@ -136,17 +126,14 @@ spared v x grown lives = record {
         | inl same ↦
             let bare : IsUnnamed v y = grown.bare y same is in
             let opened : v.opened y ≡ true = ap v.opened same ∙ lives (λ q m names. bare q m (names ∙ ap Some (sym same))) in
-            let both_ways : Some kinds.Directory ≡ Some kinds.Regular = sym is ∙ grown.handles y opened in
-            absurd (cc both_ways)
+            absurd (file_no_folder _ (grown.handles y opened) is)
         | inr apart ↦ grown.leads y apart is
       ];
   orphans = λ y k stays is inner alone.
       elim (cases_eq y x) [
         | inl same ↦
             let opened : v.opened y ≡ true = ap v.opened same ∙ lives (λ q m names. alone q m (names ∙ ap Some (sym same))) in
-            let both_ways : Some k ≡ Some kinds.Regular = sym is ∙ grown.handles y opened in
-            let regular : k ≡ kinds.Regular = cc both_ways in
-            (regular, opened)
+            (one_some _ k kinds.Regular is (grown.handles y opened), opened)
         | inr apart ↦ grown.orphans y k apart is inner alone
       ];
   handles = grown.handles;
@@ -163,41 +150,16 @@ pub record Closes (v w : Shape) (x : ℕ) : Type 0 where
   pub was : (y : ℕ) → w.opened y ≡ true → v.opened y ≡ true
   pub others : (y : ℕ) → y ≢ x → v.opened y ≡ true → w.opened y ≡ true
 
-not_held : (v : Shape) → Grown NoneGoes v → (x : ℕ) → v.kind x ≡ Some kinds.Regular → (m : List ℕ) (found : Option ℕ) → v.entry x m ≡ found → found ≡ None
-not_held v grown x file m None is = refl
-not_held v grown x file m (Some y) is =
-    let both_ways : Some kinds.Directory ≡ Some kinds.Regular = sym (grown.holds x y m is) ∙ file in
-    absurd (cc both_ways)
-
 -- a regular file has no entries
 pub no_entries : (v : Shape) → Grown NoneGoes v → (x : ℕ) → v.kind x ≡ Some kinds.Regular → (m : List ℕ) → v.entry x m ≡ None
-no_entries v grown x file m = not_held v grown x file m (v.entry x m) refl
+no_entries v grown x file m = none_from (v.entry x m) (λ y is. file_no_folder _ file (grown.holds x y m is))
 
-pub closed : (v w : Shape) (x : ℕ) → Closes v w x → Grown NoneGoes v → v.kind x ≡ Some kinds.Regular → Grown (Only x) w
-closed v w x closes grown file = record {
-  rooted = closes.kind root ∙ grown.rooted;
-  top = λ q m is. grown.top q m (sym (closes.entry q m) ∙ is);
-  kept = (grown.kept.0, closes.entry root lost_and_found ∙ grown.kept.1, closes.kind grown.kept.0 ∙ grown.kept.2);
-  holds = λ q y m is. closes.kind q ∙ grown.holds q y m (sym (closes.entry q m) ∙ is);
-  there = λ q y m is.
-      let found = grown.there q y m (sym (closes.entry q m) ∙ is) in
-      (found.0, closes.kind y ∙ found.1);
-  once = λ q r y m l is first second. grown.once q r y m l (sym (closes.kind y) ∙ is) (sym (closes.entry q m) ∙ first) (sym (closes.entry r l) ∙ second);
-  leads = λ y stays is.
-      let way = grown.leads y (λ no. no) (sym (closes.kind y) ∙ is) in
-      (way.0, leads_on v.entry w.entry (λ q z m names. closes.entry q m ∙ names) way.0 y way.1);
-  orphans = λ y k stays is inner alone.
-      let found = grown.orphans y k (λ no. no) (sym (closes.kind y) ∙ is) inner (λ q m names. alone q m (closes.entry q m ∙ names)) in
-      (found.0, closes.others y stays found.1);
-  handles = λ y is. closes.kind y ∙ grown.handles y (closes.was y is);
-  bare = λ y goes is.
-      let both_ways : Some kinds.Directory ≡ Some kinds.Regular = sym is ∙ closes.kind y ∙ ap v.kind goes ∙ file in
-      absurd (cc both_ways);
-  empty = λ y m goes. closes.entry y m ∙ ap (λ k. v.entry k m) goes ∙ no_entries v grown x file m;
-  inner = λ y goes same.
-      let both_ways : Some kinds.Directory ≡ Some kinds.Regular = sym grown.rooted ∙ ap v.kind (sym same ∙ goes) ∙ file in
-      cc both_ways;
-}
+pub Grown-closed : (v w : Shape) (x : ℕ) → Closes v w x → Grown NoneGoes v → v.kind x ≡ Some kinds.Regular → Grown (Only x) w
+Grown-closed v w x closes grown file =
+    let inner : (y : ℕ) → y ≡ x → v.kind y ≡ Some kinds.Directory → ⊥ = λ y goes is. file_no_folder _ (ap v.kind goes ∙ file) is in
+    Grown-reopened NoneGoes (Only x) v w (λ y no. absurd no)
+    (record { kind = closes.kind; entry = closes.entry; was = λ y is. grown.handles y (closes.was y is); stays = closes.others })
+    grown (λ y goes is. absurd (inner y goes is)) (λ y m goes. ap (λ k. v.entry k m) goes ∙ no_entries v grown x file m) (λ y goes same. inner y goes (ap v.kind same ∙ grown.rooted))
 
 -- ---- nodes that nothing keeps any more
 
@@ -208,14 +170,6 @@ pub record Sweeps (v w : Shape) (lives : ℕ → Bool) : Type 0 where
   pub dead : (y : ℕ) → lives y ≡ false → IsUnnamed v y × (w.opened y ≡ true → ⊥) × (y ≢ root)
   pub alive : (y : ℕ) → lives y ≡ true → IsUnnamed v y → y ≢ root → w.opened y ≡ true
 
-stays_alive : (v w : Shape) (lives : ℕ → Bool) → Sweeps v w lives → Grown NoneGoes v → (y : ℕ) → v.kind y ≡ Some kinds.Directory → (test : Bool) → lives y ≡ test → lives y ≡ true
-stays_alive v w lives sweeps grown y is true test = test
-stays_alive v w lives sweeps grown y is false test =
-    let dead = sweeps.dead y test in
-    let found = grown.orphans y kinds.Directory (λ no. no) is dead.2 dead.0 in
-    let both_ways : kinds.Directory ≡ kinds.Regular = found.0 in
-    absurd (cc both_ways)
-
 kept_kind : (found : Option Kind) (test : Bool) (k : Kind) → cond test found None ≡ Some k → (test ≡ true) × (found ≡ Some k)
 kept_kind found true k is = (refl, is)
 kept_kind found false k is = absurd (cc is)
@@ -224,17 +178,13 @@ kept_entry : (found : Option ℕ) (test : Bool) (y : ℕ) → cond test found No
 kept_entry found true y is = is
 kept_entry found false y is = absurd (cc is)
 
-named_lives : (v w : Shape) (lives : ℕ → Bool) → Sweeps v w lives → (q y : ℕ) (m : List ℕ) → v.entry q m ≡ Some y → (test : Bool) → lives y ≡ test → lives y ≡ true
-named_lives v w lives sweeps q y m names true test = test
-named_lives v w lives sweeps q y m names false test = absurd ((sweeps.dead y test).0 q m names)
-
-opened_lives : (v w : Shape) (lives : ℕ → Bool) → Sweeps v w lives → (y : ℕ) → w.opened y ≡ true → (test : Bool) → lives y ≡ test → lives y ≡ true
-opened_lives v w lives sweeps y opened true test = test
-opened_lives v w lives sweeps y opened false test = absurd ((sweeps.dead y test).1 opened)
-
-pub swept : (v w : Shape) (lives : ℕ → Bool) → Sweeps v w lives → Grown NoneGoes v → Grown NoneGoes w
-swept v w lives sweeps grown =
-    let alive : (y : ℕ) → v.kind y ≡ Some kinds.Directory → lives y ≡ true = λ y is. stays_alive v w lives sweeps grown y is (lives y) refl in
+pub Grown-swept : (v w : Shape) (lives : ℕ → Bool) → Sweeps v w lives → Grown NoneGoes v → Grown NoneGoes w
+Grown-swept v w lives sweeps grown =
+    let alive : (y : ℕ) → v.kind y ≡ Some kinds.Directory → lives y ≡ true = λ y is.
+    true_from_ne_false (lives y) (λ no.
+    let dead = sweeps.dead y no in
+    let same : kinds.Directory ≡ kinds.Regular = (grown.orphans y kinds.Directory (λ no. no) is dead.2 dead.0).0 in
+    cc same) in
     let old : (q y : ℕ) (m : List ℕ) → w.entry q m ≡ Some y → v.entry q m ≡ Some y = λ q y m is. kept_entry (v.entry q m) (lives q) y (sym (sweeps.entry q m) ∙ is) in
     let new : (q y : ℕ) (m : List ℕ) → v.entry q m ≡ Some y → w.entry q m ≡ Some y =
     λ q y m is. sweeps.entry q m ∙ ap (λ b. cond b (v.entry q m) None) (alive q (grown.holds q y m is)) ∙ is in
@@ -246,7 +196,7 @@ swept v w lives sweeps grown =
       holds = λ q y m is. folder q (grown.holds q y m (old q y m is));
       there = λ q y m is.
           let found = grown.there q y m (old q y m is) in
-          (found.0, sweeps.kind y ∙ ap (λ b. cond b (v.kind y) None) (named_lives v w lives sweeps q y m (old q y m is) (lives y) refl) ∙ found.1);
+          (found.0, sweeps.kind y ∙ ap (λ b. cond b (v.kind y) None) (true_from_ne_false (lives y) (λ no. (sweeps.dead y no).0 q m (old q y m is))) ∙ found.1);
       once = λ q r y m l is first second. grown.once q r y m l (kept_kind (v.kind y) (lives y) _ (sym (sweeps.kind y) ∙ is)).1 (old q y m first) (old r y l second);
       leads = λ y stays is.
           let way = grown.leads y (λ no. no) (kept_kind (v.kind y) (lives y) _ (sym (sweeps.kind y) ∙ is)).1 in
@@ -255,7 +205,7 @@ swept v w lives sweeps grown =
           let was = kept_kind (v.kind y) (lives y) k (sym (sweeps.kind y) ∙ is) in
           let unnamed : IsUnnamed v y = λ q m names. alone q m (new q y m names) in
           ((grown.orphans y k (λ no. no) was.1 inner unnamed).0, sweeps.alive y was.0 unnamed inner);
-      handles = λ y is. sweeps.kind y ∙ ap (λ b. cond b (v.kind y) None) (opened_lives v w lives sweeps y is (lives y) refl) ∙ grown.handles y (sweeps.was y is);
+      handles = λ y is. sweeps.kind y ∙ ap (λ b. cond b (v.kind y) None) (true_from_ne_false (lives y) (λ no. (sweeps.dead y no).1 is)) ∙ grown.handles y (sweeps.was y is);
       bare = λ y goes. absurd goes;
       empty = λ y m goes. absurd goes;
       inner = λ y goes. absurd goes;

@@ -1,18 +1,18 @@
 -- The tree that was just made is one tree of names without orphans.
 use Rattle.std.proofs.Common.{◌≡◌, ◌<◌, ℕ, zero, suc, List, [], ◌∷◌, Bool, true, false, cond, None, Some, refl, sym, ap, ◌∙◌, ◌⊎◌, inl, inr, arith}
+use Rattle.std.proofs.lemmas.List.Elements.{All-nil}
 use Rattle.std.specs.BTreeMap.{is_at}
 use Rattle.std.specs.Cmp.Lexicographic.{slice_cmp}
 use Rattle.std.specs.Ordering.{nat_cmp}
-use Rattle.std.proofs.lemmas.List.Elements.{All-nil}
 use Rattle.s3_base.specs.declared.node_kind.Kind.{Kind}
 use Rattle.s3_base.specs.declared.node_kind.Kind.TheVariants as kinds
 use Rattle.plain_tree.specs.Entries.{entry_at}
 use Rattle.plain_tree.specs.Tree.{Directory, root, lost_and_found, empty_directory, made_tree, node_at}
-use Rattle.tree_laws.proofs.Node.Reading.{same_number}
-use Rattle.tree_laws.proofs.Shape.Words.{Grown, NoneGoes}
-use Rattle.tree_laws.proofs.Node.Keys.{same_name}
+use Rattle.tree_laws.proofs.Node.Keys.{same_name, same_number}
+use Rattle.tree_laws.proofs.Node.Kind.{kind_in, entry_in}
 use Rattle.tree_laws.proofs.Shape.Steps.{Sound}
-use Rattle.tree_laws.proofs.Shape.Tree.{kind_in, entry_in, shape_of}
+use Rattle.tree_laws.proofs.Shape.Tree.{shape_of}
+use Rattle.tree_laws.proofs.Shape.Words.{Grown, NoneGoes}
 
 -- ---- the tree that was just made
 

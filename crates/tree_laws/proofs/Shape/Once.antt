@@ -1,20 +1,19 @@
 -- Where an inode is named once, two entries that name it are one.
-use Rattle.std.proofs.Common.{◌≡◌, ◌≢◌, ℕ, ◌+◌, ◌≤◌, List, [], ◌∷◌, Bool, true, false, cond, Option, None, Some, refl, sym, ap, ◌∙◌, inl, inr, arith}
-use Rattle.std.specs.Prelude.{◌==◌, sum_by}
+use Rattle.std.proofs.Common.{◌≡◌, ◌≢◌, ℕ, ◌+◌, ◌≤◌, List, [], ◌∷◌, Bool, true, false, cond, Option, Some, refl, sym, ap, ◌∙◌, inl, inr, arith}
+use Rattle.std.proofs.lemmas.Bool.{cases_eq, eq-eqb}
+use Rattle.std.proofs.lemmas.List.Sums.{sum_by-cons}
 use Rattle.std.specs.BTreeMap.{is_at}
 use Rattle.std.specs.Cmp.Lexicographic.{slice_cmp}
 use Rattle.std.specs.Map.{lookup}
 use Rattle.std.specs.Ordering.{nat_cmp}
+use Rattle.std.specs.Prelude.{◌==◌, sum_by}
 use Rattle.std.specs.declared.cmp.Ordering.{Ordering}
-use Rattle.std.proofs.lemmas.Bool.{cases_eq, eq-eqb}
-use Rattle.std.proofs.lemmas.List.Sums.{sum_by-cons}
 use Rattle.plain_tree.specs.Attributes.{names_in}
 use Rattle.plain_tree.specs.Entries.{entry_at}
 use Rattle.plain_tree.specs.Tree.{Content, Regular, Directory, Link, Node, Tree, node_at, entry_of}
 use Rattle.plain_tree.specs.WellFormed.{entries_naming}
-use Rattle.tree_laws.proofs.Name.Reading.{Tells, numbers_tell, names_tell}
-use Rattle.tree_laws.proofs.Shape.Words.{cases_name}
-use Rattle.tree_laws.proofs.Shape.Tree.{entry_in}
+use Rattle.tree_laws.proofs.Node.Keys.{Tells, numbers_tell, names_tell, cases_name}
+use Rattle.tree_laws.proofs.Node.Kind.{entry_in, entry_some}
 
 -- ---- sums over what look-ups find
 
@@ -68,23 +67,18 @@ two_in x n m (Directory entries) apart first second = omega (arith, counted_own 
 two_in x n m (Regular bytes) apart first second = absurd (cc first)
 two_in x n m (Link target) apart first second = absurd (cc first)
 
--- an entry is that of a node
-pub holder : (found : Option Node) (n : List ℕ) (x : ℕ) → entry_in n found ≡ Some x → (node : Node) × (found ≡ Some node) × (entry_of node.content n ≡ Some x)
-holder None n x is = absurd (cc is)
-holder (Some node) n x is = (node, refl, is)
-
 abbrev in_node : ℕ → Node → ℕ
 in_node x node = names_in x node.content
 
 other_node : (t : Tree) (x p q : ℕ) (n m : List ℕ) → p ≢ q → entry_at t p n ≡ Some x → entry_at t q m ≡ Some x → 2 ≤ entries_naming t x
 other_node t x p q n m apart first second =
-    let one = holder (node_at t p) n x first in
-    let other = holder (node_at t q) m x second in
+    let one = entry_some n x (node_at t p) first in
+    let other = entry_some m x (node_at t q) second in
     omega (arith, some_in x n one.0.content one.2, some_in x m other.0.content other.2, two_at_least nat_cmp numbers_tell (in_node x) p q one.0 other.0 t.nodes apart one.1 other.1)
 
 other_name_of : (t : Tree) (x p : ℕ) (n m : List ℕ) → n ≢ m → entry_at t p n ≡ Some x → entry_at t p m ≡ Some x → 2 ≤ entries_naming t x
 other_name_of t x p n m apart first second =
-    let one = holder (node_at t p) n x first in
+    let one = entry_some n x (node_at t p) first in
     let also : entry_of one.0.content m ≡ Some x = ap (entry_in m) (sym one.1) ∙ second in
     omega (arith, two_in x n m one.0.content apart one.2 also, at_least nat_cmp (in_node x) p one.0 t.nodes one.1)
 

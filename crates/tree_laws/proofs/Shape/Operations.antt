@@ -1,9 +1,9 @@
 -- One tree of names without orphans, through every operation.
 use Rattle.std.proofs.Common.{◌≡◌, ℕ, List, None, Some, refl, ap, ◌∙◌}
-use Rattle.std.specs.Prelude.{◌==◌, not}
 use Rattle.std.specs.List.{filter}
-use Rattle.op_frames.specs.declared.operation.Op.{Op}
+use Rattle.std.specs.Prelude.{◌==◌, not}
 use Rattle.op_frames.specs.Replay.{Request}
+use Rattle.op_frames.specs.declared.operation.Op.{Op}
 use Rattle.plain_tree.specs.Attributes.{kind_of}
 use Rattle.plain_tree.specs.Calls.{tree_after_all}
 use Rattle.plain_tree.specs.Entries.{entry_at, lives}
@@ -13,15 +13,15 @@ use Rattle.plain_tree.specs.Subtrees.{with_lock, without_pass}
 use Rattle.plain_tree.specs.Tree.{Node, Tree, node_at, entry_of, change_node}
 use Rattle.plain_tree.proofs.Changes.{change_after}
 use Rattle.plain_tree.proofs.Handles.{below-change}
-use Rattle.tree_laws.proofs.File.Checked.{is_file}
-use Rattle.tree_laws.proofs.Shape.Loss.{swept}
 use Rattle.tree_laws.proofs.Name.Order.{NamesInOrder-tree_after}
+use Rattle.tree_laws.proofs.Node.Kind.{kind_in, kind_bytes, entry_bytes, folder_is, file_of, free_is}
 use Rattle.tree_laws.proofs.Node.Order.{InOrder-tree_after}
-use Rattle.tree_laws.proofs.Rename.Shape.{renamed}
-use Rattle.tree_laws.proofs.Shape.Words.{Grown, NoneGoes, Same, grown_same}
-use Rattle.tree_laws.proofs.Shape.Steps.{Sound, folder_is, free_is, kind_bytes, entry_bytes, new_node, new_file_in, linked, opened_one, released, unlinks, unmade, uprooted, copied}
-use Rattle.tree_laws.proofs.Shape.Subtree.{lock_shape, leave_shape}
-use Rattle.tree_laws.proofs.Shape.Tree.{kind_in, shape_of, same_shape}
+use Rattle.tree_laws.proofs.Rename.Shape.{Grown-moved_entry}
+use Rattle.tree_laws.proofs.Shape.Loss.{Grown-swept}
+use Rattle.tree_laws.proofs.Shape.Steps.{Grown-without_tree, Sound, Grown-with_new_node, Grown-with_new_file, Grown-link, Grown-open, Grown-release, Grown-unlink, Grown-rmdir, Grown-with_copy}
+use Rattle.tree_laws.proofs.Shape.Subtree.{shape-with_lock, shape-without_pass}
+use Rattle.tree_laws.proofs.Shape.Tree.{shape_of, shape-change_node}
+use Rattle.tree_laws.proofs.Shape.Words.{Grown, NoneGoes, Same, Grown-same}
 use Rattle.tree_laws.proofs.Walk.Calls.{effects-tree_after, kept-tree_after_all}
 use Rattle.tree_laws.proofs.Walk.Edits.{Edit, Resize, Write, Entry, NoEntry, edited, SparesEntries, NewNode, File, Folder, Symlink, built}
 use Rattle.tree_laws.proofs.Walk.Operations.{Effects}
@@ -42,8 +42,8 @@ edit_spares_entries now (Entry other inode) spares name node = absurd spares
 edit_spares_entries now (NoEntry other) spares name node = absurd spares
 edit_spares_entries now e spares name node = refl
 
-pub edit_shape : (now : ℕ) (e : Edit) → SparesEntries e → (x : ℕ) (t : Tree) → Same (shape_of t) (shape_of (change_node x (edited now e) t))
-edit_shape now e spares x t = same_shape (edited now e) (edit_spares_kind now e spares) (edit_spares_entries now e spares) x t
+pub shape-edited : (now : ℕ) (e : Edit) → SparesEntries e → (x : ℕ) (t : Tree) → Same (shape_of t) (shape_of (change_node x (edited now e) t))
+shape-edited now e spares x t = shape-change_node (edited now e) (edit_spares_kind now e spares) (edit_spares_entries now e spares) x t
 
 -- ---- operations
 
@@ -55,22 +55,22 @@ new_has_no_entry now (Symlink target uid gid) m = refl
 grown_effects : (t : Tree) (pass now : ℕ) (op : Op) → Sound t → Effects t pass now op (λ after. Grown NoneGoes (shape_of after))
 grown_effects t pass now op sound = record {
   same = sound.grown;
-  edits = λ e x fits allowed spares. grown_same NoneGoes (shape_of t) (shape_of (change_node x (edited now e) t)) (edit_shape now e spares x t) sound.grown;
-  makes = λ p n new begins can. new_node t p n (built now new) now sound (new_has_no_entry now new) (folder_is (node_at t p) can.there can.folder) (free_is (node_at t p) n can.free);
-  creates = λ p n mode uid gid fits can handles. new_file_in t pass p n mode uid gid now sound (folder_is (node_at t p) can.there can.folder) (free_is (node_at t p) n can.free);
-  links = λ x p n can. linked t x p n now sound (node_at t x) refl can.there can.file (folder_is (node_at t p) can.parent_there can.parent_folder) (free_is (node_at t p) n can.free);
-  unlinks = λ p n can. unlinks t p n now sound (entry_at t p n) refl can.drop.kept can.drop.entry can.file;
-  unmakes = λ p n can. unmade t p n now sound (entry_at t p n) refl can.drop.kept can.drop.entry can.child_folder can.empty;
-  moves = λ p n np nn can. renamed t p n np nn now sound can;
+  edits = λ e x fits allowed spares. Grown-same NoneGoes (shape_of t) (shape_of (change_node x (edited now e) t)) (shape-edited now e spares x t) sound.grown;
+  makes = λ p n new begins can. Grown-with_new_node t p n (built now new) now sound (new_has_no_entry now new) (folder_is (node_at t p) can.there can.folder) (free_is (node_at t p) n can.free);
+  creates = λ p n mode uid gid fits can handles. Grown-with_new_file t pass p n mode uid gid now sound (folder_is (node_at t p) can.there can.folder) (free_is (node_at t p) n can.free);
+  links = λ x p n can. Grown-link t x p n now sound (node_at t x) refl can.there can.file (folder_is (node_at t p) can.parent_there can.parent_folder) (free_is (node_at t p) n can.free);
+  unlinks = λ p n can. Grown-unlink t p n now sound (entry_at t p n) refl can.drop.kept can.drop.entry can.file;
+  unmakes = λ p n can. Grown-rmdir t p n now sound (entry_at t p n) refl can.drop.kept can.drop.entry can.child_folder can.empty;
+  moves = λ p n np nn can. Grown-moved_entry t p n np nn now sound can;
   opens = λ x there file handles.
-      let found = is_file (node_at t x) there file in
-      opened_one t x pass sound (ap kind_in found.2 ∙ ap (λ c. Some (kind_of c)) found.3);
-  closes = λ number opened. released t pass number sound opened;
+      let found = file_of (node_at t x) there file in
+      Grown-open t x pass sound (ap kind_in found.2 ∙ ap (λ c. Some (kind_of c)) found.3);
+  closes = λ number opened. Grown-release t pass number sound opened;
   copies = λ source p n can.
-      copied t source p n now sound (folder_is (node_at t source) can.source_there can.source_folder) (folder_is (node_at t p) can.there can.folder) (free_is (node_at t p) n can.free);
-  locks = λ x. grown_same NoneGoes (shape_of t) (shape_of (with_lock x t)) (lock_shape x t) sound.grown;
-  uproots = λ p n is can. uprooted t p n now sound (entry_at t p n) refl can.drop.kept can.drop.entry can.child_folder;
-  leaves = swept (shape_of t) (shape_of (without_pass pass t)) (lives (record t { handles = filter (λ h. not (h.1.pass == pass)) t.handles })) (leave_shape pass t sound.ordered sound.names) sound.grown;
+      Grown-with_copy t source p n now sound (folder_is (node_at t source) can.source_there can.source_folder) (folder_is (node_at t p) can.there can.folder) (free_is (node_at t p) n can.free);
+  locks = λ x. Grown-same NoneGoes (shape_of t) (shape_of (with_lock x t)) (shape-with_lock x t) sound.grown;
+  uproots = λ p n is can. Grown-without_tree t p n now sound (entry_at t p n) refl can.drop.kept can.drop.entry can.child_folder;
+  leaves = Grown-swept (shape_of t) (shape_of (without_pass pass t)) (lives (record t { handles = filter (λ h. not (h.1.pass == pass)) t.handles })) (shape-without_pass pass t sound.ordered sound.names) sound.grown;
 }
 
 pub Sound-tree_after : (t : Tree) (pass now : ℕ) (op : Op) → Sound t → Sound (tree_after t pass op now)

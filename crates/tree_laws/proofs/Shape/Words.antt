@@ -1,13 +1,11 @@
 -- What kinds of nodes there are, what the entries name, and which nodes are open; and what holds of these in every tree.
-use Rattle.std.proofs.Common.{◌≡◌, ◌≢◌, ℕ, zero, suc, List, Bool, true, false, Option, None, Some, refl, sym, ap, ◌∙◌, ◌⊎◌, inl, inr}
+use Rattle.std.proofs.Common.{◌≡◌, ◌≢◌, ℕ, zero, suc, List, Bool, true, Option, None, Some, sym, ap, ◌∙◌, ◌⊎◌, inl, inr}
 use Rattle.std.proofs.lemmas.Bool.{cases_eq}
-use Rattle.std.specs.BTreeMap.{is_at}
-use Rattle.std.specs.Cmp.Lexicographic.{slice_cmp}
-use Rattle.std.specs.Ordering.{nat_cmp}
 use Rattle.s3_base.specs.declared.node_kind.Kind.{Kind}
 use Rattle.s3_base.specs.declared.node_kind.Kind.TheVariants as kinds
 use Rattle.plain_tree.specs.Tree.{root, lost_and_found}
-use Rattle.tree_laws.proofs.Node.Keys.{same_name, own_name}
+use Rattle.tree_laws.proofs.Node.Keys.{cases_name}
+use Rattle.tree_laws.proofs.Node.Kind.{none_some, one_some}
 
 pub record Shape : Type 0 where
   pub kind : ℕ → Option Kind
@@ -49,16 +47,6 @@ Only one inode = inode ≡ one
 
 -- ---- places of entries
 
-name_if : (a b : List ℕ) (test : Bool) → is_at (slice_cmp nat_cmp a) b ≡ test → (a ≡ b) ⊎ (a ≢ b)
-name_if a b true is = inl (same_name a b is)
-name_if a b false is =
-    inr (λ same.
-    let itself : true ≡ false = sym (own_name a) ∙ ap (λ c. is_at (slice_cmp nat_cmp a) c) same ∙ is in
-    cc itself)
-
-pub cases_name : (a b : List ℕ) → (a ≡ b) ⊎ (a ≢ b)
-cases_name a b = name_if a b (is_at (slice_cmp nat_cmp a) b) refl
-
 -- two places of entries are one
 abbrev pub IsPlace : ℕ → List ℕ → ℕ → List ℕ → Type 0
 IsPlace parent name q m = (q ≡ parent) × (m ≡ name)
@@ -75,14 +63,10 @@ cases_place parent name q m =
 
 -- an entry is at one place, and names one inode
 pub one_entry : (entry : ℕ → List ℕ → Option ℕ) (parent : ℕ) (name : List ℕ) (q : ℕ) (m : List ℕ) (x y : ℕ) → IsPlace parent name q m → entry parent name ≡ Some x → entry q m ≡ Some y → y ≡ x
-one_entry entry parent name q m x y same first second =
-    let both_ways : Some y ≡ Some x = sym second ∙ ap (λ k. entry k m) same.0 ∙ ap (entry parent) same.1 ∙ first in
-    cc both_ways
+one_entry entry parent name q m x y same first second = one_some _ y x second (ap (λ k. entry k m) same.0 ∙ ap (entry parent) same.1 ∙ first)
 
 pub not_there : (entry : ℕ → List ℕ → Option ℕ) (parent : ℕ) (name : List ℕ) (q : ℕ) (m : List ℕ) (y : ℕ) → IsPlace parent name q m → entry parent name ≡ None → entry q m ≡ Some y → ⊥
-not_there entry parent name q m y same none is =
-    let both_ways : None ≡ Some y = sym none ∙ ap (λ k. entry k name) (sym same.0) ∙ ap (entry q) (sym same.1) ∙ is in
-    cc both_ways
+not_there entry parent name q m y same none is = none_some _ y none (ap (λ k. entry k name) (sym same.0) ∙ ap (entry q) (sym same.1) ∙ is)
 
 -- ---- shapes that are the same
 
@@ -104,25 +88,43 @@ pub leads_on : (entry after : ℕ → List ℕ → Option ℕ) → ((parent inod
 leads_on entry after keeps zero inode leads = leads
 leads_on entry after keeps (suc steps) inode leads = (leads.0, leads.1, keeps leads.0 inode leads.1 leads.2, leads_on entry after keeps steps leads.0 leads.3)
 
-pub grown_same : (but : ℕ → Type 0) (v w : Shape) → Same v w → Grown but v → Grown but w
-grown_same but v w same grown = record {
+-- shapes with the same nodes and entries: what is open now is a file, and what was open is so still, but for what goes
+pub record Reopened (but : ℕ → Type 0) (v w : Shape) : Type 0 where
+  pub kind : (y : ℕ) → w.kind y ≡ v.kind y
+  pub entry : (q : ℕ) (m : List ℕ) → w.entry q m ≡ v.entry q m
+  pub was : (y : ℕ) → w.opened y ≡ true → v.kind y ≡ Some kinds.Regular
+  pub stays : (y : ℕ) → (but y → ⊥) → v.opened y ≡ true → w.opened y ≡ true
+
+-- the shape stays grown where more is about to go, which is no root, has no entries and is unnamed as a directory
+pub Grown-reopened : (but more : ℕ → Type 0) (v w : Shape) → ((y : ℕ) → but y → more y) → Reopened more v w → Grown but v → ((y : ℕ) → more y → v.kind y ≡ Some kinds.Directory → IsUnnamed v y)
+    → ((y : ℕ) (m : List ℕ) → more y → v.entry y m ≡ None) → ((y : ℕ) → more y → y ≢ root) → Grown more w
+Grown-reopened but more v w wider same grown bare empty inner = record {
   rooted = same.kind root ∙ grown.rooted;
-  top = λ parent name is. grown.top parent name (sym (same.entry parent name) ∙ is);
+  top = λ q m is. grown.top q m (sym (same.entry q m) ∙ is);
   kept = (grown.kept.0, same.entry root lost_and_found ∙ grown.kept.1, same.kind grown.kept.0 ∙ grown.kept.2);
-  holds = λ parent inode name is. same.kind parent ∙ grown.holds parent inode name (sym (same.entry parent name) ∙ is);
-  there = λ parent inode name is.
-      let found = grown.there parent inode name (sym (same.entry parent name) ∙ is) in
-      (found.0, same.kind inode ∙ found.1);
-  once = λ parent other inode name another is first second.
-      grown.once parent other inode name another (sym (same.kind inode) ∙ is) (sym (same.entry parent name) ∙ first) (sym (same.entry other another) ∙ second);
-  leads = λ inode stays is.
-      let way = grown.leads inode stays (sym (same.kind inode) ∙ is) in
-      (way.0, leads_on v.entry w.entry (λ parent x name names. same.entry parent name ∙ names) way.0 inode way.1);
-  orphans = λ inode k stays is inner unnamed.
-      let found = grown.orphans inode k stays (sym (same.kind inode) ∙ is) inner (λ parent name names. unnamed parent name (same.entry parent name ∙ names)) in
-      (found.0, same.opened inode ∙ found.1);
-  handles = λ inode is. same.kind inode ∙ grown.handles inode (sym (same.opened inode) ∙ is);
-  bare = λ inode goes is parent name names. grown.bare inode goes (sym (same.kind inode) ∙ is) parent name (sym (same.entry parent name) ∙ names);
-  empty = λ inode name goes. same.entry inode name ∙ grown.empty inode name goes;
-  inner = λ inode goes. grown.inner inode goes;
+  holds = λ q y m is. same.kind q ∙ grown.holds q y m (sym (same.entry q m) ∙ is);
+  there = λ q y m is.
+      let found = grown.there q y m (sym (same.entry q m) ∙ is) in
+      (found.0, same.kind y ∙ found.1);
+  once = λ q r y m l is first second. grown.once q r y m l (sym (same.kind y) ∙ is) (sym (same.entry q m) ∙ first) (sym (same.entry r l) ∙ second);
+  leads = λ y stays is.
+      let way = grown.leads y (λ goes. stays (wider y goes)) (sym (same.kind y) ∙ is) in
+      (way.0, leads_on v.entry w.entry (λ q z m names. same.entry q m ∙ names) way.0 y way.1);
+  orphans = λ y k stays is below alone.
+      let found = grown.orphans y k (λ goes. stays (wider y goes)) (sym (same.kind y) ∙ is) below (λ q m names. alone q m (same.entry q m ∙ names)) in
+      (found.0, same.stays y stays found.1);
+  handles = λ y is. same.kind y ∙ same.was y is;
+  bare = λ y goes is q m names. bare y goes (sym (same.kind y) ∙ is) q m (sym (same.entry q m) ∙ names);
+  empty = λ y m goes. same.entry y m ∙ empty y m goes;
+  inner = inner;
 }
+
+pub Grown-same : (but : ℕ → Type 0) (v w : Shape) → Same v w → Grown but v → Grown but w
+Grown-same but v w same grown =
+    Grown-reopened but but v w (λ y goes. goes)
+    (record { kind = same.kind; entry = same.entry; was = λ y is. grown.handles y (sym (same.opened y) ∙ is); stays = λ y stays is. same.opened y ∙ is })
+    grown grown.bare grown.empty grown.inner
+
+-- a handle that is opened
+pub Grown-opened : (v w : Shape) → Reopened NoneGoes v w → Grown NoneGoes v → Grown NoneGoes w
+Grown-opened v w opens grown = Grown-reopened NoneGoes NoneGoes v w (λ y goes. goes) opens grown grown.bare grown.empty grown.inner

@@ -1,12 +1,14 @@
 -- What the walk over the operations says of a call, and of a list of calls.
-use Rattle.std.proofs.Common.{◌≡◌, ℕ, List, [], ◌∷◌, Option, None, Some, refl, sym, subst}
-use Rattle.op_frames.specs.declared.operation.Op.{Op}
+use Rattle.std.proofs.Common.{◌∙◌, ◌≡◌, ℕ, List, [], ◌∷◌, Option, None, Some, refl, sym, subst}
 use Rattle.op_frames.specs.Replay.{Request}
+use Rattle.op_frames.specs.declared.operation.Op.{Op}
+use Rattle.op_frames.specs.declared.reply.Reply.TheVariants as replies
+use Rattle.s3_base.specs.declared.errors.Errno.{Errno}
 use Rattle.plain_tree.specs.Calls.{tree_after_all}
 use Rattle.plain_tree.specs.Checks.{first_failure}
-use Rattle.plain_tree.specs.Operations.{checks, effect, tree_after}
+use Rattle.plain_tree.specs.Operations.{reply_to, checks, effect, tree_after}
 use Rattle.plain_tree.specs.Tree.{Tree}
-use Rattle.plain_tree.proofs.Replies.{tree_at}
+use Rattle.plain_tree.proofs.Replies.{reply_at, tree_at}
 use Rattle.tree_laws.proofs.Walk.Operations.{Effects, Walk, effects-effect, effects_by_walk}
 
 call_if : (P : Tree → Type 0) (t : Tree) (pass now : ℕ) (op : Op) (failure : Option ℕ) → first_failure (checks t pass op) ≡ failure → P t
@@ -36,3 +38,19 @@ pub kept-tree_after_all : (P : Tree → Type 0) → ((t : Tree) (pass now : ℕ)
 kept-tree_after_all P keeps t [] holds = holds
 kept-tree_after_all P keeps t (call ∷ calls) holds =
     kept-tree_after_all P keeps (tree_after t call.pass call.op call.now) calls (keeps t call.pass call.now call.op holds)
+
+-- ---- replies
+
+passes_if : (t : Tree) (pass now : ℕ) (op : Op) → ((errno : Errno) → reply_to t pass op now ≡ replies.Errno errno → ⊥) → (failure : Option ℕ) → first_failure (checks t pass op) ≡ failure → first_failure (checks t pass op) ≡ None
+passes_if t pass now op not_refused None is = is
+passes_if t pass now op not_refused (Some n) is = absurd (not_refused (record { 0 = n }) (reply_at t pass now op (Some n) is))
+
+-- what is not refused has passed all checks
+pub passes_by : (t : Tree) (pass now : ℕ) (op : Op) → ((errno : Errno) → reply_to t pass op now ≡ replies.Errno errno → ⊥) → first_failure (checks t pass op) ≡ None
+passes_by t pass now op not_refused = passes_if t pass now op not_refused (first_failure (checks t pass op)) refl
+
+pub passes_if_done : (t : Tree) (pass now : ℕ) (op : Op) → reply_to t pass op now ≡ replies.Done → first_failure (checks t pass op) ≡ None
+passes_if_done t pass now op done =
+    passes_by t pass now op (λ errno refused.
+    let both : replies.Done ≡ replies.Errno errno = sym done ∙ refused in
+    cc both)

@@ -1,7 +1,8 @@
 -- Every operation, by what it does to the tree: the larger changes, and the primitive changes that these consist of.
-use Rattle.std.proofs.Common.{◌≡◌, ◌≤◌, ℕ, ◌+◌, ◌^◌, List, ◌++◌, Bool, true, false, cond, Option, None, Some, refl, length}
-use Rattle.std.specs.Prelude.{◌==◌, unwrap_or}
+use Rattle.std.proofs.Common.{◌≡◌, ◌≤◌, ℕ, ◌+◌, ◌^◌, List, ◌++◌, Option, None, Some, refl, length}
+use Rattle.std.proofs.lemmas.Bool.{cond_both}
 use Rattle.std.specs.List.{filter_map}
+use Rattle.std.specs.Prelude.{◌==◌, unwrap_or}
 use Rattle.op_frames.specs.declared.operation.Op.{Op}
 use Rattle.op_frames.specs.declared.operation.Op.TheVariants as ops
 use Rattle.plain_tree.specs.Below.{at_and_below}
@@ -34,10 +35,6 @@ pub record Effects (t : Tree) (pass now : ℕ) (op : Op) (P : Tree → Type 0) :
   pub uproots : (p : ℕ) (n : List ℕ) → op ≡ ops.RemoveTree p n → CanUproot t p n → P (without_tree p n now (entry_at t p n) t)
   pub leaves : P (without_pass pass t)
 
-cond-cases : (P : Tree → Type 0) (test : Bool) (a b : Tree) → (test ≡ true → P a) → (test ≡ false → P b) → P (cond test a b)
-cond-cases P true a b first second = first refl
-cond-cases P false a b first second = second refl
-
 pub effects-effect : (t : Tree) (pass now : ℕ) (op : Op) (P : Tree → Type 0) → Effects t pass now op P → first_failure (checks t pass op) ≡ None → P (effect t pass op now)
 effects-effect t pass now (ops.Chmod x mode) P effects passes =
     let all = all_pass (checks t pass (ops.Chmod x mode)) passes in
@@ -60,7 +57,7 @@ effects-effect t pass now (ops.Create p n mode uid gid) P effects passes =
 effects-effect t pass now (ops.Unlink p n) P effects passes = effects.unlinks p n (can_unlink t pass p n passes)
 effects-effect t pass now (ops.Rmdir p n) P effects passes = effects.unmakes p n (can_unmake t pass p n passes)
 effects-effect t pass now (ops.Rename p n np nn) P effects passes =
-    cond-cases P (is_same (entry_at t np nn) (entry_at t p n)) t (moved_entry p n np nn now (entry_at t p n) t) (λ same. effects.same)
+    cond_both (is_same (entry_at t np nn) (entry_at t p n)) t (moved_entry p n np nn now (entry_at t p n) t) P (λ same. effects.same)
     (λ differs. effects.moves p n np nn (can_move t pass p n np nn passes differs))
 effects-effect t pass now (ops.Link x p n) P effects passes = effects.links x p n (can_link t pass x p n passes)
 effects-effect t pass now (ops.Symlink p n target uid gid) P effects passes =
@@ -74,7 +71,7 @@ effects-effect t pass now (ops.Release number) P effects passes =
     effects.closes number all.0
 effects-effect t pass now (ops.Write number offset bytes) P effects passes =
     let all = all_pass (checks t pass (ops.Write number offset bytes)) passes in
-    cond-cases P (length bytes == 0) t _ (λ none. effects.same)
+    cond_both (length bytes == 0) t _ P (λ none. effects.same)
     (λ some. effects.edits (Write offset bytes) (inode_of (handle_of t pass number)) (end_fits offset bytes some all.1.1.0) all.1.0 _)
 effects-effect t pass now (ops.Setxattr x name flag value) P effects passes =
     let all = all_pass (checks t pass (ops.Setxattr x name flag value)) passes in
@@ -106,7 +103,7 @@ pub record Walk (before : Tree) (now : ℕ) (R : Tree → Tree → Type 0) : Typ
   pub leaves : (pass : ℕ) (t : Tree) → R t (without_pass pass t)
 
 pub walk-settled : (before : Tree) (now : ℕ) (R : Tree → Tree → Type 0) → Walk before now R → (x : ℕ) (t : Tree) → R t (settled x t)
-walk-settled before now R walk x t = cond-cases (R t) (lives t x) t (without_node x t) (λ lives. walk.same t) (λ dead. walk.removes x t)
+walk-settled before now R walk x t = cond_both (lives t x) t (without_node x t) (R t) (λ lives. walk.same t) (λ dead. walk.removes x t)
 
 walk-dropped : (before : Tree) (now : ℕ) (R : Tree → Tree → Type 0) → Walk before now R → (x : Option ℕ) (t : Tree) → R t (dropped now x t)
 walk-dropped before now R walk None t = walk.same t

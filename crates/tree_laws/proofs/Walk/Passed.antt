@@ -1,12 +1,12 @@
 -- What the checks of an operation say where all of them pass.
-use Rattle.std.proofs.Common.{◌≡◌, ◌≤◌, ◌<◌, ℕ, ◌+◌, ◌^◌, List, [], ◌∷◌, Bool, true, false, Option, None, Some, refl, arith, length, cond, subst}
-use Rattle.std.specs.Prelude.{◌==◌, nat_lt, not, ◌&&◌, unwrap_or, is_some}
+use Rattle.std.proofs.Common.{◌≡◌, ◌≤◌, ◌<◌, ℕ, ◌+◌, ◌^◌, List, [], ◌∷◌, ◌++◌, Bool, true, false, Option, None, Some, refl, arith, length, cond, subst}
 use Rattle.std.proofs.lemmas.Bool.{ltb-false, leb-false}
+use Rattle.std.specs.Prelude.{◌==◌, nat_lt, not, ◌&&◌, unwrap_or, is_some}
 use Rattle.op_frames.specs.declared.operation.Op.TheVariants as ops
 use Rattle.plain_tree.specs.Below.{at_and_below, is_at_or_below}
 use Rattle.plain_tree.specs.Checks.{first_failure, fails_with, name_check, target_check, mode_check, time_check, size_check, write_end_check, node_check, directory_check, no_directory_check, lock_check, free_check, keep_check, entry_check, empty_check, ids_check, hand_check}
 use Rattle.plain_tree.specs.Entries.{is_folder, entry_at, child_at}
-use Rattle.plain_tree.specs.Operations.{checks, move_checks}
+use Rattle.plain_tree.specs.Operations.{checks, make_checks, drop_checks, move_checks}
 use Rattle.plain_tree.specs.Subtrees.{is_same}
 use Rattle.plain_tree.specs.Tree.{Tree, node_at}
 
@@ -128,21 +128,27 @@ pub record CanCopy (t : Tree) (source p : ℕ) (n : List ℕ) : Type 0 where
   pub free : free_check (node_at t p) n ≡ None
   pub ids : t.next_inode + length (at_and_below t source) ≤ 2 ^ 62
 
+can_make : (t : Tree) (p : ℕ) (n : List ℕ) (mode : ℕ) (rest : List (Option ℕ)) → AllPass (make_checks t p n mode ++ rest) → (mode ≤ 4095) × CanMake t p n × AllPass rest
+can_make t p n mode rest all = (
+  mode_fits mode all.1.0,
+  record { legal = all.0; there = all.1.1.0; folder = all.1.1.1.0; unlocked = all.1.1.1.1.0; free = all.1.1.1.1.1.0; ids = ids_fit t 1 all.1.1.1.1.1.1.0 },
+  all.1.1.1.1.1.1.1,
+)
+
+can_drop : (t : Tree) (p : ℕ) (n : List ℕ) (rest : List (Option ℕ)) → AllPass (drop_checks t p n ++ rest) → CanDrop t p n × AllPass rest
+can_drop t p n rest all =
+    (record { legal = all.0; there = all.1.0; folder = all.1.1.0; unlocked = all.1.1.1.0; kept = all.1.1.1.1.0; entry = all.1.1.1.1.1.0 }, all.1.1.1.1.1.1)
+
 pub can_mkdir : (t : Tree) (pass p : ℕ) (n : List ℕ) (mode uid gid : ℕ) → first_failure (checks t pass (ops.Mkdir p n mode uid gid)) ≡ None → (mode ≤ 4095) × CanMake t p n
 can_mkdir t pass p n mode uid gid passes =
-    let all = all_pass (checks t pass (ops.Mkdir p n mode uid gid)) passes in (
-      mode_fits mode all.1.0,
-      record { legal = all.0; there = all.1.1.0; folder = all.1.1.1.0; unlocked = all.1.1.1.1.0; free = all.1.1.1.1.1.0; ids = ids_fit t 1 all.1.1.1.1.1.1.0 },
-    )
+    let can = can_make t p n mode [] (all_pass (checks t pass (ops.Mkdir p n mode uid gid)) passes) in
+    (can.0, can.1)
 
 pub can_create : (t : Tree) (pass p : ℕ) (n : List ℕ) (mode uid gid : ℕ) → first_failure (checks t pass (ops.Create p n mode uid gid)) ≡ None
     → (mode ≤ 4095) × CanMake t p n × (t.next_handle + 1 ≤ 2 ^ 62)
 can_create t pass p n mode uid gid passes =
-    let all = all_pass (checks t pass (ops.Create p n mode uid gid)) passes in (
-      mode_fits mode all.1.0,
-      record { legal = all.0; there = all.1.1.0; folder = all.1.1.1.0; unlocked = all.1.1.1.1.0; free = all.1.1.1.1.1.0; ids = ids_fit t 1 all.1.1.1.1.1.1.0 },
-      hand_fits t all.1.1.1.1.1.1.1.0,
-    )
+    let can = can_make t p n mode (hand_check t ∷ []) (all_pass (checks t pass (ops.Create p n mode uid gid)) passes) in
+    (can.0, can.1, hand_fits t can.2.0)
 
 pub can_symlink : (t : Tree) (pass p : ℕ) (n target : List ℕ) (uid gid : ℕ) → first_failure (checks t pass (ops.Symlink p n target uid gid)) ≡ None → (target_check target ≡ None) × CanMake t p n
 can_symlink t pass p n target uid gid passes =
@@ -153,30 +159,18 @@ can_symlink t pass p n target uid gid passes =
 
 pub can_unlink : (t : Tree) (pass p : ℕ) (n : List ℕ) → first_failure (checks t pass (ops.Unlink p n)) ≡ None → CanUnlink t p n
 can_unlink t pass p n passes =
-    let all = all_pass (checks t pass (ops.Unlink p n)) passes in
-    record {
-      drop = record { legal = all.0; there = all.1.0; folder = all.1.1.0; unlocked = all.1.1.1.0; kept = all.1.1.1.1.0; entry = all.1.1.1.1.1.0 };
-      file = all.1.1.1.1.1.1.0;
-      child_unlocked = all.1.1.1.1.1.1.1.0;
-    }
+    let can = can_drop t p n (no_directory_check 21 (child_at t p n) ∷ lock_check (child_at t p n) ∷ []) (all_pass (checks t pass (ops.Unlink p n)) passes) in
+    record { drop = can.0; file = can.1.0; child_unlocked = can.1.1.0 }
 
 pub can_unmake : (t : Tree) (pass p : ℕ) (n : List ℕ) → first_failure (checks t pass (ops.Rmdir p n)) ≡ None → CanUnmake t p n
 can_unmake t pass p n passes =
-    let all = all_pass (checks t pass (ops.Rmdir p n)) passes in
-    record {
-      drop = record { legal = all.0; there = all.1.0; folder = all.1.1.0; unlocked = all.1.1.1.0; kept = all.1.1.1.1.0; entry = all.1.1.1.1.1.0 };
-      child_folder = all.1.1.1.1.1.1.0;
-      child_unlocked = all.1.1.1.1.1.1.1.0;
-      empty = all.1.1.1.1.1.1.1.1.0;
-    }
+    let can = can_drop t p n (directory_check (child_at t p n) ∷ lock_check (child_at t p n) ∷ empty_check (child_at t p n) ∷ []) (all_pass (checks t pass (ops.Rmdir p n)) passes) in
+    record { drop = can.0; child_folder = can.1.0; child_unlocked = can.1.1.0; empty = can.1.1.1.0 }
 
 pub can_uproot : (t : Tree) (pass p : ℕ) (n : List ℕ) → first_failure (checks t pass (ops.RemoveTree p n)) ≡ None → CanUproot t p n
 can_uproot t pass p n passes =
-    let all = all_pass (checks t pass (ops.RemoveTree p n)) passes in
-    record {
-      drop = record { legal = all.0; there = all.1.0; folder = all.1.1.0; unlocked = all.1.1.1.0; kept = all.1.1.1.1.0; entry = all.1.1.1.1.1.0 };
-      child_folder = all.1.1.1.1.1.1.0;
-    }
+    let can = can_drop t p n (directory_check (child_at t p n) ∷ []) (all_pass (checks t pass (ops.RemoveTree p n)) passes) in
+    record { drop = can.0; child_folder = can.1.0 }
 
 pub can_link : (t : Tree) (pass x p : ℕ) (n : List ℕ) → first_failure (checks t pass (ops.Link x p n)) ≡ None → CanLink t x p n
 can_link t pass x p n passes =
