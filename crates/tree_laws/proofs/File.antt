@@ -1,6 +1,4 @@
 -- The bytes of files, and operations that change one node.
-
 pub mod Alone
 pub mod Bytes
-pub mod Checked
 pub mod Written

@@ -1,6 +1,5 @@
 -- What a lock keeps: the node itself, the entry that names it, and all below it.
-
-pub mod Entry
+mod Entry
 pub mod Node
 pub mod Refusal
 pub mod Tree

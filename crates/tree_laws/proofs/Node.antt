@@ -1,5 +1,4 @@
 -- Nodes by their numbers: their order, what look-ups find, and what holds of each of them.
-
 pub mod Ascend
 pub mod Each
 pub mod Handles

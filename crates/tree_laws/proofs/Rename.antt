@@ -1,6 +1,5 @@
 -- What a rename moves.
-
-pub mod Entry
+mod Entry
 pub mod Law
-pub mod Nodes
+mod Nodes
 pub mod Shape

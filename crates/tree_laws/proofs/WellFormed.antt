@@ -17,6 +17,7 @@ use Rattle.tree_laws.proofs.Shape.Operations.{Sound-tree_after}
 use Rattle.tree_laws.proofs.Shape.Steps.{Sound}
 use Rattle.tree_laws.proofs.Walk.Calls.{kept-tree_after_all}
 
+-- a well-formed tree is one tree of names without orphans
 pub sound_of : (t : Tree) → IsWellFormed t → Sound t
 sound_of t well = record {
   ordered = well.nodes;
@@ -25,6 +26,7 @@ sound_of t well = record {
   grown = grown_of t well.nodes well.names well.tree well.orphans;
 }
 
+-- every operation keeps a tree well formed
 pub IsWellFormed-tree_after : (t : Tree) (pass now : ℕ) (op : Op) → IsWellFormed t → IsWellFormed (tree_after t pass op now)
 IsWellFormed-tree_after t pass now op well =
     let after : Tree = tree_after t pass op now in
@@ -41,6 +43,7 @@ IsWellFormed-tree_after t pass now op well =
       modes = HaveModes-tree_after t pass now op well.modes;
     }
 
+-- and so do any calls
 pub IsWellFormed-tree_after_all : (t : Tree) (calls : List Request) → IsWellFormed t → IsWellFormed (tree_after_all t calls)
 IsWellFormed-tree_after_all t calls well = kept-tree_after_all IsWellFormed IsWellFormed-tree_after t calls well
 

@@ -36,7 +36,7 @@ use Rattle.tree_laws.proofs.Shape.Copy.{shape-with_copy}
 use Rattle.tree_laws.proofs.Shape.Gain.{IsBelow}
 use Rattle.tree_laws.proofs.Shape.Tree.{shape_of, Links, shape-add_entry}
 use Rattle.tree_laws.proofs.Walk.Calls.{passes_by}
-use Rattle.tree_laws.proofs.Walk.Passed.{all_pass, not_failed}
+use Rattle.tree_laws.proofs.Walk.Passed.{can_copy}
 
 -- ---- a copied node
 
@@ -73,6 +73,7 @@ one_of f good apart (Some x) (Some y) first second is =
     let same : f x ≡ f y = cc is in
     ap Some (apart x y (first x refl) (second y refl) same)
 
+-- what a CopyTree asks of a tree
 pub record CanBeCopied (t : Tree) (source p : ℕ) (n : List ℕ) : Type 0 where
   pub ordered : InOrder t
   pub names : NamesInOrder t
@@ -219,15 +220,15 @@ alike t source p n now can =
 
 can_be_copied : (t : Tree) (pass source p : ℕ) (n : List ℕ) → first_failure (checks t pass (ops.CopyTree source p n)) ≡ None → InOrder t → NamesInOrder t → HasOneTree t → CanBeCopied t source p n
 can_be_copied t pass source p n is ordered names tree =
-    let all = all_pass (checks t pass (ops.CopyTree source p n)) is in
+    let can = can_copy t pass source p n is in
     record {
       ordered = ordered;
       names = names;
       tree = tree;
-      folder = folder_is (node_at t source) all.1.0 all.1.1.0;
-      parent = folder_is (node_at t p) all.1.1.1.0 all.1.1.1.1.0;
-      outside = not_failed 22 (is_among (at_and_below t source) p) all.1.1.1.1.1.0;
-      free = free_is (node_at t p) n all.1.1.1.1.1.1.1.0;
+      folder = folder_is (node_at t source) can.source_there can.source_folder;
+      parent = folder_is (node_at t p) can.there can.folder;
+      outside = can.outside;
+      free = free_is (node_at t p) n can.free;
     }
 
 copied_passes : (t : Tree) (pass now source p : ℕ) (n : List ℕ) (attr : Attr) → reply_to t pass (ops.CopyTree source p n) now ≡ replies.Attr attr
@@ -242,6 +243,7 @@ pub can_be : (t : Tree) (pass now source p : ℕ) (n : List ℕ) (attr : Attr) �
     → CanBeCopied t source p n
 can_be t pass now source p n attr ordered names tree replied = can_be_copied t pass source p n (copied_passes t pass now source p n attr replied) ordered names tree
 
+-- a CopyTree that is answered with attributes makes a copy
 pub copy_done : (t : Tree) (pass now source p : ℕ) (n : List ℕ) (attr : Attr) → InOrder t → NamesInOrder t → HasOneTree t → reply_to t pass (ops.CopyTree source p n) now ≡ replies.Attr attr
     → IsCopied source p n now t (tree_after t pass (ops.CopyTree source p n) now)
 copy_done t pass now source p n attr ordered names tree replied =

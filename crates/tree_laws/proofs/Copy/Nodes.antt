@@ -26,6 +26,7 @@ place_if true false m n is = absurd (omega (arith, is))
 place_if false true m n is = absurd (omega (arith, is))
 place_if false false m n is = inr (refl, refl, omega (arith, is))
 
+-- two inodes of a list that have one place are one
 pub place_of-one : (order : List ℕ) (y z : ℕ) → is_among order y ≡ true → place_of y order ≡ place_of z order → y ≡ z
 place_of-one [] y z among same = absurd (cc among)
 place_of-one (i ∷ order) y z among same =
@@ -77,12 +78,14 @@ first_place t x =
 
 -- ---- look-ups among the copies
 
+-- the copy of a node
 abbrev pub copy_of : Tree → List ℕ → ℕ → Node → Node
 copy_of t order now node = copied_node t.next_inode order now node
 
 abbrev pub number_of : Tree → List ℕ → ℕ → ℕ
 number_of t order y = copy_number t.next_inode order y
 
+-- a node is the copy of one of the inodes
 pub record FromCopy (t : Tree) (order : List ℕ) (now : ℕ) (inodes : List ℕ) (z : ℕ) (node : Node) : Type 0 where
   pub of : ℕ
   pub original : Node
@@ -168,15 +171,19 @@ to_copies t order now (inode ∷ inodes) y node among within is =
 
 -- ---- a tree with copies
 
+-- the tree with the copies, before one of them is named
 abbrev pub with_copies : Tree → List ℕ → ℕ → Tree
 with_copies t order now = record t { next_inode = t.next_inode + length order; nodes = t.nodes ++ copies t order now order }
 
+-- a node that was there is there
 pub old_node : (t : Tree) (order : List ℕ) (now y : ℕ) (node : Node) → node_at t y ≡ Some node → node_at (with_copies t order now) y ≡ Some node
 old_node t order now y node is = lookup-append_there (is_at (nat_cmp y)) t.nodes (copies t order now order) node is
 
+-- copies have numbers that were not given
 pub number_fits : (t : Tree) (order : List ℕ) (y : ℕ) → t.next_inode ≤ number_of t order y
 number_fits t order y = omega arith
 
+-- the copy of each node is there
 pub new_node : (t : Tree) → InOrder t → (order : List ℕ) (now y : ℕ) (node : Node) → is_among order y ≡ true → node_at t y ≡ Some node
     → node_at (with_copies t order now) (number_of t order y) ≡ Some (copy_of t order now node)
 new_node t ordered order now y node among is =
@@ -190,6 +197,7 @@ from_node_if t order now z node (Some old) there is =
     let both_ways : Some old ≡ Some node = sym (old_node t order now z old there) ∙ is in
     inl (there ∙ both_ways)
 
+-- a node is one that was there, or a copy
 pub from_node : (t : Tree) (order : List ℕ) (now z : ℕ) (node : Node) → node_at (with_copies t order now) z ≡ Some node → (node_at t z ≡ Some node) ⊎ FromCopy t order now order z node
 from_node t order now z node is = from_node_if t order now z node (node_at t z) refl is
 

@@ -35,7 +35,8 @@ visit zero t inode seen fresh = fresh
 visit (suc n) t inode seen fresh =
     visit_new (λ child s. walk n t child s) (λ child s old. visit n t child s old) inode (children t inode) seen (is_among seen inode) refl fresh
 
-pub visited_once : (t : Tree) (inode : ℕ) → Fresh [] (at_and_below t inode)
+-- a walk visits no node twice
+visited_once : (t : Tree) (inode : ℕ) → Fresh [] (at_and_below t inode)
 visited_once t inode = visit (suc (length t.nodes)) t inode [] _
 
 -- ---- the numbers of copies
@@ -67,6 +68,7 @@ copies_from t order now seen (inode ∷ inodes) is fresh =
     copies_if t order inodes now inode (t.next_inode + length seen) (t.next_inode + length order) (node_at t inode) place
     (subst (λ k. Ascend k (keys_of (copies t order now inodes)) (t.next_inode + length order)) low rest)
 
+-- copies stand in the order of their numbers, which fill the range from the next one on
 pub copies_ascend : (t : Tree) (source now : ℕ)
     → Ascend t.next_inode (keys_of (copies t (at_and_below t source) now (at_and_below t source))) (t.next_inode + length (at_and_below t source))
 copies_ascend t source now =

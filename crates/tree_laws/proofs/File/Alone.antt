@@ -3,18 +3,19 @@ use Rattle.std.proofs.Common.{◌≡◌, ℕ, List, true, cond, Option, None, So
 use Rattle.std.proofs.lemmas.Bool.{eq-eqb}
 use Rattle.op_frames.specs.declared.operation.Op.{Op}
 use Rattle.op_frames.specs.declared.operation.Op.TheVariants as ops
-use Rattle.plain_tree.specs.Checks.{first_failure}
 use Rattle.plain_tree.specs.Entries.{entry_at}
-use Rattle.plain_tree.specs.Operations.{checks, effect, tree_after}
+use Rattle.plain_tree.specs.Operations.{effect, tree_after}
 use Rattle.plain_tree.specs.Subtrees.{is_same, moved_entry}
 use Rattle.plain_tree.specs.Tree.{Node, Tree, node_at, changed_by, change_node}
-use Rattle.plain_tree.proofs.Replies.{tree_at, same_after}
+use Rattle.plain_tree.proofs.Replies.{same_after}
 use Rattle.tree_laws.specs.Changes.{ChangesOneNode, node_changed}
 use Rattle.tree_laws.proofs.Node.Reading.{changed_by-changes_one}
+use Rattle.tree_laws.proofs.Walk.Calls.{after_call}
 
 changes_none : (inode : ℕ) (t : Tree) → ChangesOneNode inode t t
 changes_none inode t = record { others = λ x apart. refl; handles = refl; next_inode = refl; next_handle = refl; block_size = refl }
 
+-- a change of one node leaves all else
 pub changes_found : (f : Node → Node) (inode : ℕ) (t : Tree) (found : Option Node) → node_at t inode ≡ found → ChangesOneNode inode t (changed_by f found inode t)
 changes_found f inode t None is = changes_none inode t
 changes_found f inode t (Some node) is = changed_by-changes_one f node inode t is
@@ -33,10 +34,9 @@ changes_by t pass now inode (ops.Setxattr changed name flag value) names = chang
 changes_by t pass now inode (ops.Removexattr changed name) names = changes_alone _ changed inode t names
 changes_by t pass now inode op names = absurd (cc names)
 
-pub stays_alone : (t : Tree) (pass now inode : ℕ) (op : Op) (failure : Option ℕ) → first_failure (checks t pass op) ≡ failure → node_changed op ≡ Some inode
-    → ChangesOneNode inode t (tree_after t pass op now)
-stays_alone t pass now inode op (Some errno) is names = rw (tree_at t pass now op (Some errno) is) (changes_none inode t)
-stays_alone t pass now inode op None is names = rw (tree_at t pass now op None is) (changes_by t pass now inode op names)
+-- so does an operation on the state of one node
+pub stays_alone : (t : Tree) (pass now inode : ℕ) (op : Op) → node_changed op ≡ Some inode → ChangesOneNode inode t (tree_after t pass op now)
+stays_alone t pass now inode op names = after_call (ChangesOneNode inode t) t pass now op (changes_none inode t) (λ passes. changes_by t pass now inode op names)
 
 -- ---- a rename of a node to itself
 

@@ -30,6 +30,7 @@ le-padded n bytes = rw (length-padded n bytes) (omega arith)
 
 -- ---- a write
 
+-- the bytes after a write
 pub written_bytes : (offset : ℕ) (text old : List ℕ) → HasBytesAt offset text old (written_at offset text old)
 written_bytes offset text old =
     let head : List ℕ = take offset (padded offset old) in

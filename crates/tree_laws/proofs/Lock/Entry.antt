@@ -199,6 +199,7 @@ there_still : (found : Option Node) (node : Node) (k : Kind) → kind_in found �
 there_still found node k is (inl gone) = absurd (none_some (kind_in found) k (ap kind_in gone) is)
 there_still found node k is (inr kept) = kept
 
+-- one call leaves the entry and the node that it names
 pub one_stays : (t : Tree) (pass now : ℕ) (op : Op) (p x : ℕ) (n : List ℕ) (node : Node) → Held t p x n node → (first_failure (checks t pass op) ≡ None → Spares t p n op replies.Done)
     → IsAsBefore p n x node (tree_after t pass op now)
 one_stays t pass now op p x n node held spares =
@@ -216,6 +217,7 @@ spares_done : (t : Tree) (pass now : ℕ) (op : Op) (p : ℕ) (n : List ℕ) →
 spares_done t pass now (ops.RemoveTree q m) p n spares passes = λ top done is. spares top (reply_at t pass now (ops.RemoveTree q m) None passes) is
 spares_done t pass now op p n spares passes = _
 
+-- and so do calls that spare it
 pub all_stay : (t : Tree) (calls : List Request) (p x : ℕ) (n : List ℕ) (node : Node) → Held t p x n node → AllSpare t p n calls → IsAsBefore p n x node (tree_after_all t calls)
 all_stay t [] p x n node held spare = record { names = held.names; time = node.ctime; is = held.is }
 all_stay t (call ∷ calls) p x n node held spare =

@@ -37,14 +37,14 @@ abbrev pub Still : Option Node → Option Node → Type 0
 Still None after = after ≡ None
 Still (Some node) after = IsKept after node
 
-pub still_same : (found : Option Node) → Still found found
+still_same : (found : Option Node) → Still found found
 still_same None = refl
 still_same (Some node) = inr (node.ctime, refl)
 
-pub still_equal : (found after : Option Node) → after ≡ found → Still found after
+still_equal : (found after : Option Node) → after ≡ found → Still found after
 still_equal found after is = subst (λ a. Still found a) (sym is) (still_same found)
 
-pub still_gone : (found : Option Node) → Still found None
+still_gone : (found : Option Node) → Still found None
 still_gone None = refl
 still_gone (Some node) = inl refl
 
@@ -52,7 +52,7 @@ kept_on : (node : Node) (later : Option Node) (time : ℕ) → Still (Some (stam
 kept_on node later time (inl gone) = inl gone
 kept_on node later time (inr again) = inr again
 
-pub still_later : (found after later : Option Node) → Still found after → Still after later → Still found later
+still_later : (found after later : Option Node) → Still found after → Still after later → Still found later
 still_later None after later first second = subst (λ a. Still a later) first second
 still_later (Some node) after later (inl gone) second =
     let none : later ≡ None = subst (λ a. Still a later) gone second in
@@ -211,6 +211,7 @@ same_lock : (t : Tree) (inode : ℕ) (node : Node) → node_at t inode ≡ Some 
 same_lock t inode node is locked found also =
     ap (λ (n : Node). n.locked) (one_some _ found node also is) ∙ locked
 
+-- after any calls a locked node is as it was but for ctime, or gone
 pub kept_after : (t : Tree) (calls : List Request) (x : ℕ) (node : Node) → InOrder t → node_at t x ≡ Some node → node.locked ≡ true → IsKept (node_at (tree_after_all t calls) x) node
 kept_after t calls x node ordered is locked =
     let first : Stays t x t = record { ordered = ordered; fits = lookup_below_next x 0 t.nodes t.next_inode node ordered is; still = still_same (node_at t x) } in

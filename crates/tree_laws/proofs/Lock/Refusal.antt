@@ -81,6 +81,7 @@ refused_if : (t : Tree) (pass now x : ℕ) (op : Op) → Locked t x → WouldCha
 refused_if t pass now x op found would None passes = absurd (fails t pass x found op passes would)
 refused_if t pass now x op found would (Some n) is = (record { 0 = n }, reply_at t pass now op (Some n) is)
 
+-- a call that would change a locked node is refused
 pub refused_call : (t : Tree) (pass now x : ℕ) (node : Node) (op : Op) → node_at t x ≡ Some node → node.locked ≡ true → WouldChange t pass x op
     → (errno : Errno) × (reply_to t pass op now ≡ replies.Errno errno)
 refused_call t pass now x node op is locked would = refused_if t pass now x op (record { node = node; is = is; locked = locked }) would (first_failure (checks t pass op)) refl

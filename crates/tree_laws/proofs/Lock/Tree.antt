@@ -33,6 +33,7 @@ use Rattle.tree_laws.proofs.Walk.Calls.{passes_if_done}
 use Rattle.tree_laws.proofs.Walk.Passed.{all_pass, not_failed, can_uproot}
 use Rattle.tree_laws.proofs.WellFormed.{reached_sound}
 
+-- an entry of a locked node stays, in every tree that calls lead to
 pub entries_stay : (block_size time : ℕ) (calls more : List Request) (parent inode : ℕ) (name : List ℕ) (node : Node) → node_at (tree_after_all (made_tree block_size time) calls) inode ≡ Some node
     → node.locked ≡ true → entry_at (tree_after_all (made_tree block_size time) calls) parent name ≡ Some inode → AllSpare (tree_after_all (made_tree block_size time) calls) parent name more
     → IsAsBefore parent name inode node (tree_after_all (tree_after_all (made_tree block_size time) calls) more)
@@ -207,6 +208,7 @@ locked_by t sound more pass now top done spare =
       its_name = λ q m names. (keeps q m names).name;
     }
 
+-- and so does a locked tree
 pub trees_stay : (block_size time : ℕ) (calls more : List Request) (pass now inode : ℕ) → reply_to (tree_after_all (made_tree block_size time) calls) pass (ops.LockTree inode) now ≡ replies.Done
     → AllSpareTree (tree_after (tree_after_all (made_tree block_size time) calls) pass (ops.LockTree inode) now) inode more
     → StaysLocked inode (tree_after_all (made_tree block_size time) calls) (tree_after_all (tree_after (tree_after_all (made_tree block_size time) calls) pass (ops.LockTree inode) now) more)

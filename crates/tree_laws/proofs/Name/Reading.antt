@@ -24,6 +24,7 @@ above_if : (low name : List ℕ) (e : List ℕ × ℕ) (found : Option ℕ) (v :
 above_if low name e found v true here less rest is = ap (slice_cmp nat_cmp low) (same_name name e.0 here) ∙ less
 above_if low name e found v false here less rest is = nat_list_cmp_total.trans low e.0 name less (rest is)
 
+-- a name that is found is above what lies before
 pub name_above_found : (low name : List ℕ) (es : List (List ℕ × ℕ)) (v : ℕ) → RiseFrom low (keys_of es) → lookup (is_at (slice_cmp nat_cmp name)) es ≡ Some v → slice_cmp nat_cmp low name ≡ Less
 name_above_found low name [] v rise is = absurd (cc is)
 name_above_found low name (e ∷ es) v rise is = above_if low name e _ v (is_at (slice_cmp nat_cmp name) e.0) refl rise.0 (name_above_found e.0 name es v rise.1) is
@@ -43,6 +44,7 @@ name_gone name true e es rest is rise none =
     ap (λ k. lookup (is_at (slice_cmp nat_cmp k)) es) (same_name name e.0 is) ∙ none_above e.0 es (lookup (is_at (slice_cmp nat_cmp e.0)) es) rise refl
 name_gone name false e es rest is rise none = none_if (is_at (slice_cmp nat_cmp name) e.0) e.1 (lookup (is_at (slice_cmp nat_cmp name)) rest) is none
 
+-- a removed name is not found
 pub name_removed : (name : List ℕ) (es : List (List ℕ × ℕ)) → Rise (keys_of es) → lookup (is_at (slice_cmp nat_cmp name)) (remove_entry (is_at (slice_cmp nat_cmp name)) es) ≡ None
 name_removed name [] rise = refl
 name_removed name (e ∷ es) rise =
@@ -76,6 +78,7 @@ found_any y e found others true is rest =
     or_left (e.1 == y) others (eq-eqb e.1 y same)
 found_any y e found others false is rest = or_right (e.1 == y) others (rest is)
 
+-- where a look-up finds the inode, some entry names it
 pub any_named : (y : ℕ) (name : List ℕ) (es : List (List ℕ × ℕ)) → lookup (is_at (slice_cmp nat_cmp name)) es ≡ Some y → list_any (λ e. e.1 == y) es ≡ true
 any_named y name [] is = absurd (cc is)
 any_named y name (e ∷ es) is = found_any y e _ _ (is_at (slice_cmp nat_cmp name) e.0) is (any_named y name es)

@@ -39,6 +39,7 @@ insert_first e es inserted name v Less is rise rest = (is, rise)
 insert_first e es inserted name v Equal is rise rest = rise
 insert_first e es inserted name v Greater is rise rest = rest (flipped name e.0 is)
 
+-- one name more
 pub Rise-insert_entry : {X : Type 0} (es : List (List ℕ × X)) (name : List ℕ) (v : X) → Rise (keys_of es) → Rise (keys_of (insert_entry compare es name v))
 Rise-insert_entry [] name v rise = _
 Rise-insert_entry (e ∷ es) name v rise = insert_first e es (insert_entry compare es name v) name v (compare name e.0) refl rise (λ after. insert_from e.0 es name v after rise)
@@ -62,6 +63,7 @@ remove_first : {X : Type 0} (test : Bool) (e : List ℕ × X) (es others : List 
 remove_first true e es others rise rest = Rise-tail e.0 (keys_of es) rise
 remove_first false e es others rise rest = rest
 
+-- one name less
 pub Rise-remove_entry : {X : Type 0} (test : List ℕ → Bool) (es : List (List ℕ × X)) → Rise (keys_of es) → Rise (keys_of (remove_entry test es))
 Rise-remove_entry test [] rise = rise
 Rise-remove_entry test (e ∷ es) rise = remove_first (test e.0) e es (remove_entry test es) rise (remove_from e.0 test es rise)

@@ -12,12 +12,8 @@ pub Ascend-lower : (low least : ℕ) (numbers : List ℕ) (next : ℕ) → least
 Ascend-lower low least [] next less ascend = omega (arith, less, ascend)
 Ascend-lower low least (number ∷ numbers) next less ascend = (omega (arith, less, ascend.0), ascend.1)
 
-pub Ascend-tail : (low number : ℕ) (numbers : List ℕ) (next : ℕ) → Ascend low (number ∷ numbers) next → Ascend low numbers next
+Ascend-tail : (low number : ℕ) (numbers : List ℕ) (next : ℕ) → Ascend low (number ∷ numbers) next → Ascend low numbers next
 Ascend-tail low number numbers next ascend = Ascend-lower (number + 1) low numbers next (omega (arith, ascend.0)) ascend.1
-
-pub Ascend-higher : (low : ℕ) (numbers : List ℕ) (next most : ℕ) → next ≤ most → Ascend low numbers next → Ascend low numbers most
-Ascend-higher low [] next most less ascend = omega (arith, less, ascend)
-Ascend-higher low (number ∷ numbers) next most less ascend = (ascend.0, Ascend-higher (number + 1) numbers next most less ascend.1)
 
 pub Ascend-append : (low : ℕ) (numbers others : List ℕ) (middle next : ℕ) → Ascend low numbers middle → Ascend middle others next → Ascend low (numbers ++ others) next
 Ascend-append low [] others middle next first second = Ascend-lower middle low others next first second

@@ -174,7 +174,7 @@ entries-named good keeps name inode (Directory entries) legal holds = keeps.inse
 entries-named good keeps name inode (Regular bytes) legal holds = holds
 entries-named good keeps name inode (Link target) legal holds = holds
 
-pub entries-unnamed : (good : List (List ℕ × ℕ) → Type 0) → KeepsEntries good → (name : List ℕ) (content : Content) → good (entries_of content) → good (entries_of (unnamed name content))
+entries-unnamed : (good : List (List ℕ × ℕ) → Type 0) → KeepsEntries good → (name : List ℕ) (content : Content) → good (entries_of content) → good (entries_of (unnamed name content))
 entries-unnamed good keeps name (Directory entries) holds = keeps.removes name entries holds
 entries-unnamed good keeps name (Regular bytes) holds = holds
 entries-unnamed good keeps name (Link target) holds = holds

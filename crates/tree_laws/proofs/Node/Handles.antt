@@ -37,6 +37,7 @@ opened_if x next handle e es inserted Greater rest is =
       ]
     ]
 
+-- what is open with a handle more was open, or is its own inode
 pub opened_was : (x next : ℕ) (handle : Handle) (es : List (ℕ × Handle)) → list_any (λ h. h.1.inode == x) (insert_entry nat_cmp es next handle) ≡ true
     → (handle.inode ≡ x) ⊎ (list_any (λ h. h.1.inode == x) es ≡ true)
 opened_was x next handle [] is =
@@ -46,6 +47,7 @@ opened_was x next handle [] is =
     ]
 opened_was x next handle (e ∷ es) is = opened_if x next handle e es (insert_entry nat_cmp es next handle) (nat_cmp next e.0) (opened_was x next handle es) is
 
+-- what was open is open with a handle more
 pub opened_stays : (x next : ℕ) (handle : Handle) (es : List (ℕ × Handle)) → All (λ k. k < next) (keys_of es) → list_any (λ h. h.1.inode == x) es ≡ true
     → list_any (λ h. h.1.inode == x) (insert_entry nat_cmp es next handle) ≡ true
 opened_stays x next handle [] below is = absurd (cc is)
@@ -85,6 +87,7 @@ stays_if x e es rest found handle false apart later is any =
       | inr more ↦ or_right (e.1.inode == x) _ (later is more)
     ]
 
+-- what was open is open with a handle less, but for its own inode
 pub closed_stays : (x : ℕ) (test : ℕ → Bool) (es : List (ℕ × Handle)) (handle : Handle) → lookup test es ≡ Some handle → x ≢ handle.inode → list_any (λ h. h.1.inode == x) es ≡ true
     → list_any (λ h. h.1.inode == x) (remove_entry test es) ≡ true
 closed_stays x test [] handle is apart any = absurd (cc any)

@@ -81,6 +81,7 @@ here_if compare tells k v e es inserted Less is rest = ap (λ b. cond b (Some v)
 here_if compare tells k v e es inserted Equal is rest = ap (λ b. cond b (Some v) (lookup (is_at (compare k)) es)) (ap is_eq is)
 here_if compare tells k v e es inserted Greater is rest = ap (λ b. cond b (Some e.1) (lookup (is_at (compare k)) inserted)) (ap is_eq is) ∙ rest
 
+-- a look-up finds what was inserted
 pub lookup-insert_entry_same : {K X : Type 0} (compare : K → K → Ordering) → Tells compare → (k : K) (v : X) (es : List (K × X)) → lookup (is_at (compare k)) (insert_entry compare es k v) ≡ Some v
 lookup-insert_entry_same compare tells k v [] = ap (λ b. cond b (Some v) None) (tells.own k)
 lookup-insert_entry_same compare tells k v (e ∷ es) = here_if compare tells k v e es (insert_entry compare es k v) (compare k e.0) refl (lookup-insert_entry_same compare tells k v es)
@@ -94,6 +95,7 @@ kept_if compare tells k m v e es inserted Equal apart is rest =
     ap (λ b. cond b (Some v) (lookup (is_at (compare m)) es)) misses ∙ sym (ap (λ b. cond b (Some e.1) (lookup (is_at (compare m)) es)) misses)
 kept_if compare tells k m v e es inserted Greater apart is rest = ap (λ r. cond (is_at (compare m) e.0) (Some e.1) r) rest
 
+-- and what was there under another key
 pub lookup-insert_entry_other : {K X : Type 0} (compare : K → K → Ordering) → Tells compare → (k m : K) (v : X) (es : List (K × X)) → m ≢ k
     → lookup (is_at (compare m)) (insert_entry compare es k v) ≡ lookup (is_at (compare m)) es
 lookup-insert_entry_other compare tells k m v [] apart = ap (λ b. cond b (Some v) None) (tells.other m k apart)
@@ -105,6 +107,7 @@ left_if compare tells k m e es rest true apart is same =
     sym (ap (λ b. cond b (Some e.1) (lookup (is_at (compare m)) es)) (tells.other m e.0 (λ equal. apart (equal ∙ sym (tells.same k e.0 is)))))
 left_if compare tells k m e es rest false apart is same = ap (λ r. cond (is_at (compare m) e.0) (Some e.1) r) same
 
+-- a removal leaves look-ups of other keys
 pub lookup-remove_entry_other : {K X : Type 0} (compare : K → K → Ordering) → Tells compare → (k m : K) (es : List (K × X)) → m ≢ k
     → lookup (is_at (compare m)) (remove_entry (is_at (compare k)) es) ≡ lookup (is_at (compare m)) es
 lookup-remove_entry_other compare tells k m [] apart = refl

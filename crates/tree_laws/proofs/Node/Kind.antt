@@ -21,10 +21,12 @@ use Rattle.tree_laws.proofs.Walk.Passed.{not_failed}
 
 -- ---- what is found
 
+-- the kind of a node that is found
 abbrev pub kind_in : Option Node → Option Kind
 kind_in None = None
 kind_in (Some node) = Some (kind_of node.content)
 
+-- the inode that an entry of a node that is found names
 abbrev pub entry_in : List ℕ → Option Node → Option ℕ
 entry_in name found = option_and_then (λ (node : Node). entry_of node.content name) found
 

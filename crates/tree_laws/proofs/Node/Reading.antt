@@ -20,6 +20,7 @@ use Rattle.tree_laws.proofs.Node.Kind.{none_some, none_from, entry_in}
 
 -- ---- numbers in order
 
+-- no node is found below the first number
 pub lookup_none_below : (inode low : ℕ) (es : List (ℕ × Node)) (next : ℕ) → Ascend low (keys_of es) next → inode < low → lookup (is_at (nat_cmp inode)) es ≡ None
 lookup_none_below inode low [] next ascend less = refl
 lookup_none_below inode low (e ∷ es) next ascend less =
@@ -32,6 +33,7 @@ present_if inode low next e es node true here ascend rest is =
     omega (arith, same, Ascend-least (e.0 + 1) (keys_of es) next ascend.1)
 present_if inode low next e es node false here ascend rest is = rest is
 
+-- a node that is found has a number below the next one
 pub lookup_below_next : (inode low : ℕ) (es : List (ℕ × Node)) (next : ℕ) (node : Node) → Ascend low (keys_of es) next → lookup (is_at (nat_cmp inode)) es ≡ Some node → inode < next
 lookup_below_next inode low [] next node ascend is = absurd (cc is)
 lookup_below_next inode low (e ∷ es) next node ascend is =
@@ -44,11 +46,13 @@ number_gone x true e es rest next is ascend none =
     lookup_none_below x (e.0 + 1) es next ascend (omega (arith, same))
 number_gone x false e es rest next is ascend none = cond-false _ _ _ is ∙ none
 
+-- a removed node is not found
 pub lookup-remove_entry_same : (x low : ℕ) (es : List (ℕ × Node)) (next : ℕ) → Ascend low (keys_of es) next → lookup (is_at (nat_cmp x)) (remove_entry (is_at (nat_cmp x)) es) ≡ None
 lookup-remove_entry_same x low [] next ascend = refl
 lookup-remove_entry_same x low (e ∷ es) next ascend =
     number_gone x (is_at (nat_cmp x) e.0) e es (remove_entry (is_at (nat_cmp x)) es) next refl ascend.1 (lookup-remove_entry_same x (e.0 + 1) es next ascend.1)
 
+-- a new node leaves look-ups of lower numbers
 pub lookup-insert_entry_next : (inode low : ℕ) (es : List (ℕ × Node)) (next : ℕ) (node : Node) → Ascend low (keys_of es) next → inode < next
     → lookup (is_at (nat_cmp inode)) (insert_entry nat_cmp es next node) ≡ lookup (is_at (nat_cmp inode)) es
 lookup-insert_entry_next inode low [] next node ascend less = cond-false _ _ _ (other_number inode next (λ same. omega (arith, same, less)))
@@ -80,6 +84,7 @@ pub node_at-changed_by_same : (f : Node → Node) (node : Node) (inode : ℕ) (t
     → node_at (changed_by f (Some node) inode t) inode ≡ Some (f node)
 node_at-changed_by_same f node inode t is = found f node inode inode t (rw is refl) ∙ cond-true _ _ _ (own_number inode)
 
+-- a changed node is the only one that changes
 pub changed_by-changes_one : (f : Node → Node) (node : Node) (inode : ℕ) (t : Tree) → node_at t inode ≡ Some node → ChangesOneNode inode t (changed_by f (Some node) inode t)
 changed_by-changes_one f node inode t is = record {
   others = λ x apart.

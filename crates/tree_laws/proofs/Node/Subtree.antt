@@ -18,6 +18,7 @@ use Rattle.tree_laws.proofs.Node.Reading.{lookup_none_below}
 
 -- ---- nodes of which some go
 
+-- what a map that may drop nodes leaves of one that was found
 abbrev pub left_of : (ℕ × Node → Option (ℕ × Node)) → ℕ → Option Node → Option Node
 left_of keep x found = option_and_then (λ (node : Node). option_map (λ (p : ℕ × Node). p.1) (keep (x, node))) found
 
@@ -37,7 +38,7 @@ left_one keep keys x e es next ascend None is false here rest = rest
 left_one keep keys x e es next ascend (Some y) is false here rest =
     ap (λ b. cond b (Some y.1) (lookup (is_at (nat_cmp x)) (filter_map keep es))) (ap (is_at (nat_cmp x)) (keys e y is) ∙ here) ∙ rest
 
-pub left_found : (keep : ℕ × Node → Option (ℕ × Node)) → ((e y : ℕ × Node) → keep e ≡ Some y → y.0 ≡ e.0) → (x low : ℕ) (es : List (ℕ × Node)) (next : ℕ) → Ascend low (keys_of es) next
+left_found : (keep : ℕ × Node → Option (ℕ × Node)) → ((e y : ℕ × Node) → keep e ≡ Some y → y.0 ≡ e.0) → (x low : ℕ) (es : List (ℕ × Node)) (next : ℕ) → Ascend low (keys_of es) next
     → lookup (is_at (nat_cmp x)) (filter_map keep es) ≡ left_of keep x (lookup (is_at (nat_cmp x)) es)
 left_found keep keys x low [] next ascend = refl
 left_found keep keys x low (e ∷ es) next ascend =
@@ -88,22 +89,27 @@ pub outer_found : (below : List ℕ) (x low : ℕ) (es : List (ℕ × Node)) (ne
     ≡ sifted_node (λ e. not (is_among below e.0 && is_directory e.1.content)) x (lookup (is_at (nat_cmp x)) es)
 outer_found below x low es next ascend = sifted_found (λ e. not (is_among below e.0 && is_directory e.1.content)) x low es next ascend
 
+-- what a removal leaves of a node: whether it is inside, is held, and is a directory
 abbrev pub left_by : Bool → Bool → Bool → ℕ → ℕ → Node → Option Node
 left_by among alive folder now x node = option_map (λ (p : ℕ × Node). p.1) (cond among (cond (alive && not folder) (Some (x, stamped now node)) None) (Some (x, node)))
 
+-- what is held and no directory stays, stamped
 pub held_part : (among alive folder : Bool) (now x : ℕ) (node : Node) → among ≡ true → alive ≡ true → folder ≡ false → left_by among alive folder now x node ≡ Some (stamped now node)
 held_part among alive folder now x node within is file = ap (λ b. left_by b alive folder now x node) within ∙ ap (λ b. left_by true b folder now x node) is ∙ ap (λ b. left_by true true b now x node) file
 
+-- a directory inside goes
 pub folder_part : (among alive folder : Bool) (now x : ℕ) (node : Node) → among ≡ true → folder ≡ true → left_by among alive folder now x node ≡ None
 folder_part true true true now x node within is = refl
 folder_part true false true now x node within is = refl
 folder_part among alive false now x node within is = absurd (cc is)
 folder_part false alive true now x node within is = absurd (cc within)
 
-pub dead_part : (among alive folder : Bool) (now x : ℕ) (node : Node) → among ≡ true → alive ≡ false → left_by among alive folder now x node ≡ None
+-- what nothing holds goes
+dead_part : (among alive folder : Bool) (now x : ℕ) (node : Node) → among ≡ true → alive ≡ false → left_by among alive folder now x node ≡ None
 dead_part among alive folder now x node within is = ap (λ b. left_by b alive folder now x node) within ∙ ap (λ b. left_by true b folder now x node) is
 
-pub outside_part : (among alive folder : Bool) (now x : ℕ) (node : Node) → among ≡ false → left_by among alive folder now x node ≡ Some node
+-- what is outside stays
+outside_part : (among alive folder : Bool) (now x : ℕ) (node : Node) → among ≡ false → left_by among alive folder now x node ≡ Some node
 outside_part among alive folder now x node out = ap (λ b. left_by b alive folder now x node) out
 
 -- a holder of entries that is left is outside
@@ -118,6 +124,7 @@ any_if true false node m y is = is
 any_if false true node m y is = is
 any_if false false node m y is = is
 
+-- an entry that is left is in a directory outside
 pub outer_entry : (below : List ℕ) (q : ℕ) (m : List ℕ) (y : ℕ) (found : Option Node) → entry_in m (sifted_node (λ e. not (is_among below e.0 && is_directory e.1.content)) q found) ≡ Some y
     → (is_among below q ≡ false) × (entry_in m found ≡ Some y)
 outer_entry below q m y None is = absurd (cc is)
@@ -139,6 +146,7 @@ outside_left below without now x (Some node) out = outside_part (is_among below 
 
 -- ---- nodes that are locked
 
+-- what a lock makes of a node
 abbrev pub lock_within : Bool → Node → Node
 lock_within among node = cond among (record node { locked = true }) node
 
@@ -152,6 +160,7 @@ locked_if below x e found after false true is here same = ap (λ b. cond b (Some
 locked_if below x e found after true false is here same = ap (λ b. cond b (Some (record e.1 { locked = true })) after) here ∙ same
 locked_if below x e found after false false is here same = ap (λ b. cond b (Some e.1) after) here ∙ same
 
+-- what is found of nodes of which some are locked
 pub locked_found : (below : List ℕ) (x : ℕ) (es : List (ℕ × Node))
     → lookup (is_at (nat_cmp x)) (map (λ e. cond (is_among below e.0) (e.0, record e.1 { locked = true }) e) es) ≡ option_map (lock_within (is_among below x)) (lookup (is_at (nat_cmp x)) es)
 locked_found below x [] = refl

@@ -138,6 +138,7 @@ moved_if t p n np nn now plain can (Some x) replaced names new =
           (over_another t p np x r now n nn plain names new folder new_folder outside over.0 over.1)
     ] new
 
+-- a Rename whose checks pass moves one entry
 pub renamed_if : (t : Tree) (pass p np now : ℕ) (n nn : List ℕ) → IsPlain t → (entry_at t np nn ≡ entry_at t p n → ⊥) → first_failure (checks t pass (ops.Rename p n np nn)) ≡ None
     → IsRenamed p n np nn now t (tree_after t pass (ops.Rename p n np nn) now)
 renamed_if t pass p np now n nn plain apart passes =
@@ -146,6 +147,7 @@ renamed_if t pass p np now n nn plain apart passes =
     (sym (tree_at t pass now (ops.Rename p n np nn) None passes ∙ cond-false (is_same (entry_at t np nn) (entry_at t p n)) t (moved_entry p n np nn now (entry_at t p n) t) differs))
     (moved_if t p n np nn now plain (can_move t pass p n np nn passes differs) (entry_at t p n) (entry_at t np nn) refl refl)
 
+-- and so does one that is answered Done
 pub renamed_done : (t : Tree) (pass p np now : ℕ) (n nn : List ℕ) → IsPlain t → reply_to t pass (ops.Rename p n np nn) now ≡ replies.Done → (entry_at t np nn ≡ entry_at t p n → ⊥)
     → IsRenamed p n np nn now t (tree_after t pass (ops.Rename p n np nn) now)
 renamed_done t pass p np now n nn plain done apart =

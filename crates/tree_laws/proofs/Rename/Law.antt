@@ -39,12 +39,14 @@ plain_of t ordered names tree = record {
   apart = λ p x n is. not_own t tree p x n is;
 }
 
+-- a Rename that is answered Done moves one entry, in one tree of names
 pub renamed_one : (t : Tree) (pass now p np : ℕ) (n nn : List ℕ) → InOrder t → NamesInOrder t → HasOneTree t → reply_to t pass (ops.Rename p n np nn) now ≡ replies.Done
     → (entry_at t np nn ≡ entry_at t p n → ⊥) → IsRenamed p n np nn now t (tree_after t pass (ops.Rename p n np nn) now)
 renamed_one t pass now p np n nn ordered names tree done apart = renamed_done t pass p np now n nn (plain_of t ordered names tree) done apart
 
 -- ---- one tree
 
+-- a Rename keeps one tree of names
 pub renamed_tree : (t : Tree) (pass now p np : ℕ) (n nn : List ℕ) → InOrder t → NamesInOrder t → HandlesBelow t → HasOneTree t → HasNoOrphans t
     → HasOneTree (tree_after t pass (ops.Rename p n np nn) now)
 renamed_tree t pass now p np n nn ordered names below tree files =
@@ -54,6 +56,7 @@ renamed_tree t pass now p np n nn ordered names below tree files =
 
 -- ---- the trees that calls lead to
 
+-- both in every tree that calls lead to
 pub reached_renamed : (block_size time : ℕ) (calls : List Request) (t : Tree) (pass now p np : ℕ) (n nn : List ℕ) → t ≡ tree_after_all (made_tree block_size time) calls
     → reply_to t pass (ops.Rename p n np nn) now ≡ replies.Done → (entry_at t np nn ≡ entry_at t p n → ⊥)
     → IsRenamed p n np nn now t (tree_after t pass (ops.Rename p n np nn) now) × HasOneTree (tree_after t pass (ops.Rename p n np nn) now)

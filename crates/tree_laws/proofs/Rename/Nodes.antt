@@ -23,6 +23,7 @@ use Rattle.tree_laws.proofs.Shape.Words.{IsUnnamed, IsPlace, Same}
 
 -- ---- what a change of one node leaves
 
+-- handles and numbers are as before
 pub record SameFrame (t after : Tree) : Type 0 where
   pub handles : after.handles ≡ t.handles
   pub next_inode : after.next_inode ≡ t.next_inode
@@ -114,6 +115,7 @@ keeps_named name inode old = (_, refl)
 
 -- ---- an entry that moves
 
+-- the entry has moved, and the node that it names is stamped
 abbrev pub moved_to : ℕ → List ℕ → ℕ → List ℕ → ℕ → ℕ → Tree → Tree
 moved_to p n np nn x now t = change_node x (stamped now) (add_entry np nn x now (drop_entry np nn now (drop_entry p n now t)))
 
@@ -190,6 +192,7 @@ new_parent t p np x now n nn folder apart differs =
     let third : IsTouched now (node_at t np) (node_at three np) = touched_again now (named nn x) (keeps_named nn x) np two (node_at t np) second in
     touched_on now (node_at t np) (node_at three np) (node_at (moved_to p n np nn x now t) np) third (node_at-change_node_other (stamped now) x np three apart)
 
+-- both directories are touched
 pub moved_to-touches : (t : Tree) (p np x now : ℕ) (n nn : List ℕ) → kind_in (node_at t p) ≡ Some kinds.Directory → kind_in (node_at t np) ≡ Some kinds.Directory → x ≢ p → x ≢ np
     → (y : ℕ) → (y ≡ p) ⊎ (y ≡ np) → IsTouched now (node_at t y) (node_at (moved_to p n np nn x now t) y)
 moved_to-touches t p np x now n nn folder new_folder old new y (inl same) =
@@ -204,6 +207,7 @@ moved_to-touches t p np x now n nn folder new_folder old new y (inr same) =
 
 -- ---- a node that is stamped, and goes where nothing keeps it
 
+-- a node is stamped, or gone where nothing keeps it
 pub record Settles (r now : ℕ) (t after : Tree) : Type 0 where
   pub others : (y : ℕ) → y ≢ r → node_at after y ≡ node_at t y
   pub itself : ((lives after r ≡ true) × (node_at after r ≡ option_map (stamped now) (node_at t r))) ⊎ ((lives after r ≡ false) × (node_at after r ≡ None))
@@ -246,7 +250,7 @@ pub Settles-settled : (r now : ℕ) (t : Tree) → InOrder t → NamesInOrder t 
 Settles-settled r now t ordered names = settles_if r now t ordered names (lives (change_node r (stamped now) t) r) refl
 
 -- a node that is stamped has the entries that it had
-pub stamped_entry : (now : ℕ) (m : List ℕ) (found : Option Node) → entry_in m (option_map (stamped now) found) ≡ entry_in m found
+stamped_entry : (now : ℕ) (m : List ℕ) (found : Option Node) → entry_in m (option_map (stamped now) found) ≡ entry_in m found
 stamped_entry now m None = refl
 stamped_entry now m (Some node) = refl
 
@@ -269,6 +273,7 @@ settled_entry r now t after settles empty q m =
 stamped_found : (now : ℕ) (found after : Option Node) (node : Node) → found ≡ Some node → after ≡ option_map (stamped now) found → IsStamped now found after
 stamped_found now found after node was is = record { node = node; was = was; is = is ∙ ap (option_map (stamped now)) was }
 
+-- a node that was there is stamped
 pub is_stamped : (now : ℕ) (found after : Option Node) → IsSome found → after ≡ option_map (stamped now) found → IsStamped now found after
 is_stamped now None after there is = absurd (cc there)
 is_stamped now (Some node) after there is = stamped_found now (Some node) after node refl is

@@ -144,5 +144,6 @@ renamed_if t p n np nn now sound can (Some x) replaced names new =
           (over_another t p np x r now n nn sound branch names new over.0 folder can.rename.kept can.rename.new_kept over.1))
     ] new
 
+-- a Rename keeps one tree of names
 pub Grown-moved_entry : (t : Tree) (p : ℕ) (n : List ℕ) (np : ℕ) (nn : List ℕ) (now : ℕ) → Sound t → CanMove t p n np nn → Grown NoneGoes (shape_of (moved_entry p n np nn now (entry_at t p n) t))
 Grown-moved_entry t p n np nn now sound can = renamed_if t p n np nn now sound can (entry_at t p n) (entry_at t np nn) refl refl

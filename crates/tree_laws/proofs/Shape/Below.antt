@@ -212,6 +212,7 @@ names_child : (y : ℕ) (found : Option Node) → ((node : Node) → found ≡ S
 names_child y None rise is = absurd (cc is)
 names_child y (Some node) rise is = entry_named y node.content (rise node refl) (sym (any_value y (entries_of node.content)) ∙ is)
 
+-- a walk finds what lies at and below a node
 pub below_shape : (t : Tree) → NamesInOrder t → (x : ℕ) → IsBelow (shape_of t) x (is_among (at_and_below t x))
 below_shape t names x =
     let all : Walked t x [] (at_and_below t x) = walked (suc (length t.nodes)) t x [] (omega (arith, left_most t.nodes [])) in

@@ -10,6 +10,7 @@ use Rattle.tree_laws.proofs.Shape.Words.{Shape, Leads, IsUnnamed, Grown, NoneGoe
 
 -- ---- a subtree that goes
 
+-- what a removal does to what is inside, and leaves outside
 pub record Uproots (v w : Shape) (p : ℕ) (n : List ℕ) (among : ℕ → Bool) : Type 0 where
   pub outside_kind : (y : ℕ) → among y ≡ false → w.kind y ≡ v.kind y
   pub inside_kind : (y : ℕ) (k : Kind) → among y ≡ true → w.kind y ≡ Some k → (v.kind y ≡ Some k) × (k ≢ kinds.Directory)
@@ -86,6 +87,7 @@ opened_stays : (v w : Shape) (p : ℕ) (n : List ℕ) (among : ℕ → Bool) →
 opened_stays v w p n among uproots y kind is true within = uproots.stays y kinds.Regular within kind (λ same. cc same) (inr is)
 opened_stays v w p n among uproots y kind is false out = uproots.outside_kind y out ∙ kind
 
+-- what is left is one tree of names
 pub Grown-uprooted : (v w : Shape) (p x : ℕ) (n : List ℕ) (among : ℕ → Bool) → Uproots v w p n among → MayUproot v p n x among → Grown NoneGoes v → Grown NoneGoes w
 Grown-uprooted v w p x n among uproots can grown =
     let root_is_out : among root ≡ false = false_from_ne_true (among root) (λ within. grown.top p n (can.names ∙ ap Some (root_inside NoneGoes v x among can.below grown within))) in
@@ -134,6 +136,7 @@ pub record IsCopiedEntry (v : Shape) (among : ℕ → Bool) (copy : ℕ → ℕ)
   pub is : z ≡ copy named
   pub names : v.entry parent m ≡ Some named
 
+-- what a copy adds
 pub record Copies (v w : Shape) (p : ℕ) (n : List ℕ) (source : ℕ) (among : ℕ → Bool) (copy : ℕ → ℕ) : Type 0 where
   pub old_kind : (y : ℕ) (k : Kind) → v.kind y ≡ Some k → w.kind y ≡ Some k
   pub new_kind : (y : ℕ) (k : Kind) → among y ≡ true → v.kind y ≡ Some k → w.kind (copy y) ≡ Some k
@@ -194,6 +197,7 @@ both_copies v w p source n among copy can grown y q r m l folder (inr first) (in
     let one = grown.once first.0 second.0 y m l folder first.3 second.3 in
     (second.2 ∙ ap copy one.0 ∙ sym first.2, one.1)
 
+-- with a copy it is one tree of names
 pub Grown-copied : (v w : Shape) (p source : ℕ) (n : List ℕ) (among : ℕ → Bool) (copy : ℕ → ℕ) → Copies v w p n source among copy → MayCopy v p source among → Grown NoneGoes v → Grown NoneGoes w
 Grown-copied v w p source n among copy copies can grown = record {
   rooted = copies.old_kind root kinds.Directory grown.rooted;

@@ -21,6 +21,7 @@ mapped_some f (Some y) z is =
     let same : f y ≡ z = cc is in
     (y, refl, sym same)
 
+-- a CopyTree adds a copy
 pub shape-with_copy : (source p : ℕ) (n : List ℕ) (now : ℕ) (t : Tree) → InOrder t → kind_in (node_at t p) ≡ Some kinds.Directory → entry_at t p n ≡ None
     → is_among (at_and_below t source) source ≡ true
     → Copies (shape_of t) (shape_of (with_copy source p n now t)) p n source (is_among (at_and_below t source)) (copy_number t.next_inode (at_and_below t source))

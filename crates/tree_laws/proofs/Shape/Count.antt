@@ -100,6 +100,7 @@ sum_step x p n e es next false here ascend rise rising only rest is =
     let tail : sum_by (λ (e : ℕ × Node). names_in x e.1.content) es ≡ 1 = rest is (λ q m found. only q m (past_node x q m e es next ascend found).1) in
     sum_by-cons (λ (e : ℕ × Node). names_in x e.1.content) e es ∙ omega (arith, head, tail)
 
+-- an inode that one place names is named once
 pub sum_one : (x p : ℕ) (n : List ℕ) (low : ℕ) (es : List (ℕ × Node)) (next : ℕ) → Ascend low (keys_of es) next → NamesRise (values_of es) → entry_in n (lookup (is_at (nat_cmp p)) es) ≡ Some x
     → OnlyPlace x p n es → sum_by (λ e. names_in x e.1.content) es ≡ 1
 sum_one x p n low [] next ascend rising is only = absurd (cc is)

@@ -35,10 +35,11 @@ pub named_at_one_place : (t : Tree) → HasOneTree t → (p q x : ℕ) (n m : Li
 named_at_one_place t tree p q x n m folder first second =
     named_once t x p q n m (tree.once x (is_a_folder (node_at t x) folder) (λ same. root_unnamed t tree p n (first ∙ ap Some same))) first second
 
-pub from_root : (t : Tree) (steps x : ℕ) → LeadsToRoot t steps x → Leads (entry_at t) steps x
+from_root : (t : Tree) (steps x : ℕ) → LeadsToRoot t steps x → Leads (entry_at t) steps x
 from_root t zero x leads = leads
 from_root t (suc steps) x leads = (leads.0, leads.1, leads.2, from_root t steps leads.0 leads.3)
 
+-- the parents of a directory lead to the root
 pub way_up : (t : Tree) → HasOneTree t → (x : ℕ) → kind_in (node_at t x) ≡ Some kinds.Directory → (steps : ℕ) × Leads (entry_at t) steps x
 way_up t tree x folder =
     let way = tree.leads x (is_a_folder (node_at t x) folder) in
@@ -49,6 +50,7 @@ kept_of : (t : Tree) (found : Option ℕ) → entry_at t root lost_and_found ≡
 kept_of t None is folder = absurd (cc folder)
 kept_of t (Some x) is folder = (x, is, folder_kind (node_at t x) folder)
 
+-- a tree that is well formed is grown
 pub grown_of : (t : Tree) → InOrder t → NamesInOrder t → HasOneTree t → HasNoOrphans t → Grown NoneGoes (shape_of t)
 grown_of t ordered names tree files = record {
   rooted = folder_kind (node_at t root) tree.is_rooted;
@@ -83,6 +85,7 @@ named_there t sound p x n is =
     let found = sound.grown.there p x n is in
     kind_there (node_at t x) found.0 found.1
 
+-- a grown tree with legal names is one tree of names
 pub tree_of : (t : Tree) → Sound t → ((p x : ℕ) (n : List ℕ) → entry_at t p n ≡ Some x → name_check n ≡ None) → HasOneTree t
 tree_of t sound legal =
     let grown : Grown NoneGoes (shape_of t) = sound.grown in
@@ -101,6 +104,7 @@ tree_of t sound legal =
           (way.0, to_root t way.0 x way.1);
     }
 
+-- and has no orphans
 pub orphans_of : (t : Tree) → Sound t → HasNoOrphans t
 orphans_of t sound = record {
   orphans = λ x there inner unnamed.

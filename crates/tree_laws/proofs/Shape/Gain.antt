@@ -58,6 +58,7 @@ old_entry v w p x n k adds q y m apart is =
       | inr differs ↦ sym (adds.rest q m differs) ∙ is
     ]
 
+-- a new entry keeps one tree of names
 pub Grown-added : (v w : Shape) (p x : ℕ) (n : List ℕ) (k : Kind) → Adds v w p n x k → Grown NoneGoes v → v.entry p n ≡ None → v.kind p ≡ Some kinds.Directory → Grown NoneGoes w
 Grown-added v w p x n k adds grown free parent =
     let on : (q y : ℕ) (m : List ℕ) → v.entry q m ≡ Some y → w.entry q m ≡ Some y = λ q y m is. more v w p x n k adds free q y m is in
@@ -120,6 +121,7 @@ Grown-added v w p x n k adds grown free parent =
 
 -- ---- what lies at and below a node
 
+-- the test tells what lies at and below a node
 pub record IsBelow (v : Shape) (x : ℕ) (among : ℕ → Bool) : Type 0 where
   pub itself : among x ≡ true
   pub down : (q y : ℕ) (m : List ℕ) → among q ≡ true → v.entry q m ≡ Some y → among y ≡ true
@@ -172,6 +174,7 @@ no_way but v x among below grown r l round names (suc steps) y leads folder with
     ] in
     no_way but v x among below grown r l round names steps leads.0 leads.3 (grown.holds leads.0 y leads.1 leads.2) within_too
 
+-- no directory at or below another names it
 pub no_round : (but : ℕ → Type 0) (v : Shape) (x : ℕ) (among : ℕ → Bool) → IsBelow v x among → Grown but v → (but x → ⊥) → v.kind x ≡ Some kinds.Directory → (r : ℕ) (l : List ℕ)
     → among r ≡ true → v.entry r l ≡ Some x → ⊥
 no_round but v x among below grown stays folder r l round names =
@@ -180,6 +183,7 @@ no_round but v x among below grown stays folder r l round names =
 
 -- ---- an entry that moves
 
+-- an entry goes, and another names its node
 pub record Moves (v w : Shape) (p : ℕ) (n : List ℕ) (np : ℕ) (nn : List ℕ) (x : ℕ) : Type 0 where
   pub kind : (y : ℕ) → w.kind y ≡ v.kind y
   pub opened : (y : ℕ) → w.opened y ≡ v.opened y
@@ -246,6 +250,7 @@ leads_moved but v w p np x n nn among moves can grown steps y leads folder true 
     (λ q z m inner apart names up. (suc up.0, (q, m, after_move but v w p np x n nn among moves can q z m apart names, up.1)))
     steps y leads folder within
 
+-- a move keeps one tree of names
 pub Grown-moved : (but : ℕ → Type 0) (v w : Shape) (p np x : ℕ) (n nn : List ℕ) (among : ℕ → Bool) → Moves v w p n np nn x → MayMove but v p n np nn x among → Grown but v → Grown but w
 Grown-moved but v w p np x n nn among moves can grown =
     let not_root : root ≢ x = λ same. grown.top p n (can.names ∙ ap Some (sym same)) in

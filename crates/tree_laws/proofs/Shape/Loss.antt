@@ -9,6 +9,7 @@ use Rattle.tree_laws.proofs.Shape.Words.{Grown-reopened, Shape, Leads, IsUnnamed
 
 -- ---- an entry that goes
 
+-- an entry goes
 pub record Unlinks (v w : Shape) (p : ℕ) (n : List ℕ) : Type 0 where
   pub kind : (inode : ℕ) → w.kind inode ≡ v.kind inode
   pub opened : (inode : ℕ) → w.opened inode ≡ v.opened inode
@@ -32,6 +33,7 @@ leads_past v w p x n unlinks names empty (suc steps) y apart leads = (
   leads_past v w p x n unlinks names empty steps leads.0 (λ same. none_some _ y (empty leads.1) (ap (λ k. v.entry k leads.1) (sym same) ∙ leads.2)) leads.3,
 )
 
+-- what it named, without entries, may go
 pub Grown-unlinked : (v w : Shape) (p x : ℕ) (n : List ℕ) → Unlinks v w p n → Grown NoneGoes v → v.entry p n ≡ Some x → (IsPlace root lost_and_found p n → ⊥) → ((m : List ℕ) → v.entry x m ≡ None)
     → Grown (Only x) w
 Grown-unlinked v w p x n unlinks grown names free empty = record {
@@ -60,6 +62,7 @@ Grown-unlinked v w p x n unlinks grown names free empty = record {
 
 -- ---- a node that goes
 
+-- a node goes
 pub record Removes (v w : Shape) (x : ℕ) : Type 0 where
   pub gone : w.kind x ≡ None
   pub kind : (y : ℕ) → y ≢ x → w.kind y ≡ v.kind y
@@ -81,6 +84,7 @@ same_entries v w x removes empty q m =
       | inr apart ↦ removes.entry q m apart
     ]
 
+-- what was about to go is gone
 pub Grown-removed : (v w : Shape) (x : ℕ) → Removes v w x → Grown (Only x) v → IsUnnamed v x → (v.opened x ≡ true → ⊥) → Grown NoneGoes w
 Grown-removed v w x removes grown unnamed closed =
     let entry : (q : ℕ) (m : List ℕ) → w.entry q m ≡ v.entry q m = same_entries v w x removes (λ m. grown.empty x m refl) in
@@ -144,6 +148,7 @@ Grown-spared v x grown lives = record {
 
 -- ---- a handle that is closed
 
+-- a handle on the inode goes
 pub record Closes (v w : Shape) (x : ℕ) : Type 0 where
   pub kind : (y : ℕ) → w.kind y ≡ v.kind y
   pub entry : (q : ℕ) (m : List ℕ) → w.entry q m ≡ v.entry q m
@@ -154,6 +159,7 @@ pub record Closes (v w : Shape) (x : ℕ) : Type 0 where
 pub no_entries : (v : Shape) → Grown NoneGoes v → (x : ℕ) → v.kind x ≡ Some kinds.Regular → (m : List ℕ) → v.entry x m ≡ None
 no_entries v grown x file m = none_from (v.entry x m) (λ y is. file_no_folder _ file (grown.holds x y m is))
 
+-- its file may go
 pub Grown-closed : (v w : Shape) (x : ℕ) → Closes v w x → Grown NoneGoes v → v.kind x ≡ Some kinds.Regular → Grown (Only x) w
 Grown-closed v w x closes grown file =
     let inner : (y : ℕ) → y ≡ x → v.kind y ≡ Some kinds.Directory → ⊥ = λ y goes is. file_no_folder _ (ap v.kind goes ∙ file) is in
@@ -163,6 +169,7 @@ Grown-closed v w x closes grown file =
 
 -- ---- nodes that nothing keeps any more
 
+-- all goes that nothing keeps
 pub record Sweeps (v w : Shape) (lives : ℕ → Bool) : Type 0 where
   pub kind : (y : ℕ) → w.kind y ≡ cond (lives y) (v.kind y) None
   pub entry : (q : ℕ) (m : List ℕ) → w.entry q m ≡ cond (lives q) (v.entry q m) None
@@ -178,6 +185,7 @@ kept_entry : (found : Option ℕ) (test : Bool) (y : ℕ) → cond test found No
 kept_entry found true y is = is
 kept_entry found false y is = absurd (cc is)
 
+-- what is left is one tree of names
 pub Grown-swept : (v w : Shape) (lives : ℕ → Bool) → Sweeps v w lives → Grown NoneGoes v → Grown NoneGoes w
 Grown-swept v w lives sweeps grown =
     let alive : (y : ℕ) → v.kind y ≡ Some kinds.Directory → lives y ≡ true = λ y is.

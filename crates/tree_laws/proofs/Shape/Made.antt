@@ -32,6 +32,7 @@ entry_made block_size now p x n true second here other is =
 entry_made block_size now p x n false true here other is = absurd (cc is)
 entry_made block_size now p x n false false here other is = absurd (cc is)
 
+-- the only entry is lost+found
 pub made_entry : (block_size now p x : ℕ) (n : List ℕ) → entry_at (made_tree block_size now) p n ≡ Some x → (p ≡ root) × (n ≡ lost_and_found) × (x ≡ 2)
 made_entry block_size now p x n is = entry_made block_size now p x n (is_at (nat_cmp p) 1) (is_at (nat_cmp p) 2) refl refl is
 
@@ -87,6 +88,7 @@ made_grown block_size now = record {
   inner = λ x goes. absurd goes;
 }
 
+-- the tree is one tree of names without orphans
 pub made_sound : (block_size now : ℕ) → Sound (made_tree block_size now)
 made_sound block_size now = record {
   ordered = (omega arith, (omega arith, omega arith));

@@ -42,7 +42,7 @@ any_if : (y : ℕ) (n : List ℕ) (e : ℕ × Node) (found : Option Node) (other
 any_if y n e found others true is rest = or_left _ others (any_named y n (entries_of e.1.content) (entry_to y n e.1.content is))
 any_if y n e found others false is rest = or_right (list_any (λ entry. entry.1 == y) (entries_of e.1.content)) others (rest is)
 
-pub any_at : (y p : ℕ) (n : List ℕ) (es : List (ℕ × Node)) → entry_in n (lookup (is_at (nat_cmp p)) es) ≡ Some y
+any_at : (y p : ℕ) (n : List ℕ) (es : List (ℕ × Node)) → entry_in n (lookup (is_at (nat_cmp p)) es) ≡ Some y
     → list_any (λ e. list_any (λ entry. entry.1 == y) (entries_of e.1.content)) es ≡ true
 any_at y p n [] is = absurd (cc is)
 any_at y p n (e ∷ es) is = any_if y n e (lookup (is_at (nat_cmp p)) es) _ (is_at (nat_cmp p) e.0) is (any_at y p n es)
@@ -65,17 +65,20 @@ not_named t ordered names y unnamed =
     let found = names_it t ordered names y named in
     unnamed found.0 found.1 found.2)
 
+-- what does not live is unnamed, not open, and no root
 pub dead_is : (t : Tree) (y : ℕ) → lives t y ≡ false → IsUnnamed (shape_of t) y × (is_open t y ≡ true → ⊥) × (y ≢ root)
 dead_is t y is =
     let parts = or_parts (y == root || is_named t y) (is_open t y) is in
     let first = or_parts (y == root) (is_named t y) parts.0 in
     (unnamed_by t y first.1, λ opened. both_ways _ parts.1 opened, λ same. both_ways _ first.0 (eq-eqb y root same))
 
+-- what lives unnamed is open
 pub alive_is : (t : Tree) → InOrder t → NamesInOrder t → (y : ℕ) → lives t y ≡ true → IsUnnamed (shape_of t) y → y ≢ root → is_open t y ≡ true
 alive_is t ordered names y is unnamed inner =
     true_from_ne_false (is_open t y)
     (λ closed. both_ways _ (or_from _ (is_open t y) (or_from (y == root) (is_named t y) (ne_eqb y root inner) (not_named t ordered names y unnamed)) closed) is)
 
+-- what was about to go goes or stays
 pub Grown-settled : (x : ℕ) (t : Tree) → InOrder t → NamesInOrder t → Grown (Only x) (shape_of t) → Grown NoneGoes (shape_of (settled x t))
 Grown-settled x t ordered names grown =
     cond_both (lives t x) t (without_node x t) (λ after. Grown NoneGoes (shape_of after)) (λ is. Grown-spared (shape_of t) x grown (λ unnamed. alive_is t ordered names x is unnamed (grown.inner x refl)))

@@ -82,6 +82,7 @@ other_name_of t x p n m apart first second =
     let also : entry_of one.0.content m ≡ Some x = ap (entry_in m) (sym one.1) ∙ second in
     omega (arith, two_in x n m one.0.content apart one.2 also, at_least nat_cmp (in_node x) p one.0 t.nodes one.1)
 
+-- two entries of an inode that is named once are one
 pub named_once : (t : Tree) (x p q : ℕ) (n m : List ℕ) → entries_naming t x ≡ 1 → entry_at t p n ≡ Some x → entry_at t q m ≡ Some x → (q ≡ p) × (m ≡ n)
 named_once t x p q n m once first second =
     elim (cases_eq q p) [

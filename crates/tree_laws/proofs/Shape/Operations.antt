@@ -2,10 +2,8 @@
 use Rattle.std.proofs.Common.{◌≡◌, ℕ, List, None, Some, refl, ap, ◌∙◌}
 use Rattle.std.specs.List.{filter}
 use Rattle.std.specs.Prelude.{◌==◌, not}
-use Rattle.op_frames.specs.Replay.{Request}
 use Rattle.op_frames.specs.declared.operation.Op.{Op}
 use Rattle.plain_tree.specs.Attributes.{kind_of}
-use Rattle.plain_tree.specs.Calls.{tree_after_all}
 use Rattle.plain_tree.specs.Entries.{entry_at, lives}
 use Rattle.plain_tree.specs.Files.{written_at, resized}
 use Rattle.plain_tree.specs.Operations.{tree_after}
@@ -22,7 +20,7 @@ use Rattle.tree_laws.proofs.Shape.Steps.{Grown-without_tree, Sound, Grown-with_n
 use Rattle.tree_laws.proofs.Shape.Subtree.{shape-with_lock, shape-without_pass}
 use Rattle.tree_laws.proofs.Shape.Tree.{shape_of, shape-change_node}
 use Rattle.tree_laws.proofs.Shape.Words.{Grown, NoneGoes, Same, Grown-same}
-use Rattle.tree_laws.proofs.Walk.Calls.{effects-tree_after, kept-tree_after_all}
+use Rattle.tree_laws.proofs.Walk.Calls.{effects-tree_after}
 use Rattle.tree_laws.proofs.Walk.Edits.{Edit, Resize, Write, Entry, NoEntry, edited, SparesEntries, NewNode, File, Folder, Symlink, built}
 use Rattle.tree_laws.proofs.Walk.Operations.{Effects}
 
@@ -42,6 +40,7 @@ edit_spares_entries now (Entry other inode) spares name node = absurd spares
 edit_spares_entries now (NoEntry other) spares name node = absurd spares
 edit_spares_entries now e spares name node = refl
 
+-- an edit that spares the entries leaves the shape
 pub shape-edited : (now : ℕ) (e : Edit) → SparesEntries e → (x : ℕ) (t : Tree) → Same (shape_of t) (shape_of (change_node x (edited now e) t))
 shape-edited now e spares x t = shape-change_node (edited now e) (edit_spares_kind now e spares) (edit_spares_entries now e spares) x t
 
@@ -73,6 +72,7 @@ grown_effects t pass now op sound = record {
   leaves = Grown-swept (shape_of t) (shape_of (without_pass pass t)) (lives (record t { handles = filter (λ h. not (h.1.pass == pass)) t.handles })) (shape-without_pass pass t sound.ordered sound.names) sound.grown;
 }
 
+-- every operation keeps it
 pub Sound-tree_after : (t : Tree) (pass now : ℕ) (op : Op) → Sound t → Sound (tree_after t pass op now)
 Sound-tree_after t pass now op sound = record {
   ordered = InOrder-tree_after t pass now op sound.ordered;
@@ -80,6 +80,3 @@ Sound-tree_after t pass now op sound = record {
   below = below-change t pass (tree_after t pass op now) (change_after t pass now op) sound.below;
   grown = effects-tree_after t pass now op (λ after. Grown NoneGoes (shape_of after)) (grown_effects t pass now op sound);
 }
-
-pub sound_after : (t : Tree) (calls : List Request) → Sound t → Sound (tree_after_all t calls)
-sound_after t calls sound = kept-tree_after_all Sound Sound-tree_after t calls sound

@@ -31,6 +31,7 @@ use Rattle.tree_laws.proofs.Shape.Subtree.{shape-without_handle, shape-without_t
 use Rattle.tree_laws.proofs.Shape.Tree.{shape_of, shape-change_node, shape-drop_entry, Links, shape-add_entry, shape-without_node}
 use Rattle.tree_laws.proofs.Shape.Words.{Grown-opened, Shape, Grown, NoneGoes, Only, IsPlace, Grown-same}
 
+-- one tree of names without orphans, in order
 pub record Sound (t : Tree) : Type 0 where
   pub ordered : InOrder t
   pub names : NamesInOrder t
@@ -39,6 +40,7 @@ pub record Sound (t : Tree) : Type 0 where
 
 -- ---- what the checks say
 
+-- the entry is not that of lost+found
 pub keep_is : (p : ℕ) (n : List ℕ) → keep_check p n ≡ None → IsPlace root lost_and_found p n → ⊥
 keep_is p n is place =
     let kept : keep_check root lost_and_found ≡ None = sym (ap (λ k. keep_check k lost_and_found) place.0) ∙ sym (ap (keep_check p) place.1) ∙ is in
@@ -51,11 +53,11 @@ file_entries v grown x file m = none_from (v.entry x m) (λ y is. file (grown.ho
 
 -- ---- changes of one node
 
-pub Grown-alike : (f : Node → Node) → ((node : Node) → kind_of (f node).content ≡ kind_of node.content) → ((name : List ℕ) (node : Node) → entry_of (f node).content name ≡ entry_of node.content name)
+Grown-alike : (f : Node → Node) → ((node : Node) → kind_of (f node).content ≡ kind_of node.content) → ((name : List ℕ) (node : Node) → entry_of (f node).content name ≡ entry_of node.content name)
     → (but : ℕ → Type 0) (i : ℕ) (t : Tree) → Grown but (shape_of t) → Grown but (shape_of (change_node i f t))
 Grown-alike f kind entry but i t grown = Grown-same but (shape_of t) (shape_of (change_node i f t)) (shape-change_node f kind entry i t) grown
 
-pub Grown-stamped : (but : ℕ → Type 0) (now i : ℕ) (t : Tree) → Grown but (shape_of t) → Grown but (shape_of (change_node i (stamped now) t))
+Grown-stamped : (but : ℕ → Type 0) (now i : ℕ) (t : Tree) → Grown but (shape_of t) → Grown but (shape_of (change_node i (stamped now) t))
 Grown-stamped but now i t grown = Grown-alike (stamped now) (λ node. refl) (λ name node. refl) but i t grown
 
 -- ---- new nodes and names

@@ -22,6 +22,7 @@ use Rattle.tree_laws.proofs.Node.Reading.{read_changed, node_at-change_node_othe
 use Rattle.tree_laws.proofs.Shape.Loss.{Unlinks, Removes}
 use Rattle.tree_laws.proofs.Shape.Words.{Shape, IsPlace, Same}
 
+-- the shape of a tree
 abbrev pub shape_of : Tree → Shape
 shape_of t = record { kind = λ inode. kind_in (node_at t inode); entry = λ parent name. entry_at t parent name; opened = λ inode. is_open t inode }
 
@@ -31,7 +32,7 @@ handles_by : (f : Node → Node) (found : Option Node) (i : ℕ) (t : Tree) → 
 handles_by f None i t = refl
 handles_by f (Some node) i t = refl
 
-pub opened_same : (f : Node → Node) (i x : ℕ) (t : Tree) → is_open (change_node i f t) x ≡ is_open t x
+opened_same : (f : Node → Node) (i x : ℕ) (t : Tree) → is_open (change_node i f t) x ≡ is_open t x
 opened_same f i x t = ap (λ (hs : List (ℕ × Handle)). list_any (λ h. h.1.inode == x) hs) (handles_by f (node_at t i) i t)
 
 -- a change that leaves kind and entries
@@ -65,9 +66,11 @@ unnamed_found : (now : ℕ) (name : List ℕ) (found : Option Node) → ((node :
 unnamed_found now name None rise = refl
 unnamed_found now name (Some node) rise = unnamed_here name node.content (rise node refl)
 
+-- the names of a directory rise
 pub rise_at : (t : Tree) → NamesInOrder t → (i : ℕ) (node : Node) → node_at t i ≡ Some node → Rise (keys_of (entries_of node.content))
 rise_at t names i node is = rise-found (is_at (nat_cmp i)) t.nodes node names is
 
+-- an entry goes
 pub shape-drop_entry : (p : ℕ) (n : List ℕ) (now : ℕ) (t : Tree) → NamesInOrder t → Unlinks (shape_of t) (shape_of (drop_entry p n now t)) p n
 shape-drop_entry p n now t names =
     let f : Node → Node = λ node. touched now (record node { content = unnamed n node.content }) in
@@ -111,6 +114,7 @@ pub record Links (v w : Shape) (p : ℕ) (n : List ℕ) (x : ℕ) : Type 0 where
   pub here : w.entry p n ≡ Some x
   pub rest : (q : ℕ) (m : List ℕ) → (IsPlace p n q m → ⊥) → w.entry q m ≡ v.entry q m
 
+-- an entry comes
 pub shape-add_entry : (p : ℕ) (n : List ℕ) (x now : ℕ) (t : Tree) → kind_in (node_at t p) ≡ Some kinds.Directory → Links (shape_of t) (shape_of (add_entry p n x now t)) p n x
 shape-add_entry p n x now t folder =
     let f : Node → Node = λ node. touched now (record node { content = named n x node.content }) in
@@ -127,6 +131,7 @@ shape-add_entry p n x now t folder =
 
 -- ---- nodes
 
+-- a node goes
 pub shape-without_node : (x : ℕ) (t : Tree) → InOrder t → Removes (shape_of t) (shape_of (without_node x t)) x
 shape-without_node x t ordered =
     let gone : node_at (without_node x t) x ≡ None = lookup-remove_entry_same x 0 t.nodes t.next_inode ordered in

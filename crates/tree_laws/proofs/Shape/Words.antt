@@ -7,6 +7,7 @@ use Rattle.plain_tree.specs.Tree.{root, lost_and_found}
 use Rattle.tree_laws.proofs.Node.Keys.{cases_name}
 use Rattle.tree_laws.proofs.Node.Kind.{none_some, one_some}
 
+-- what a tree is apart from bytes and times
 pub record Shape : Type 0 where
   pub kind : ℕ → Option Kind
   pub entry : ℕ → List ℕ → Option ℕ
@@ -70,17 +71,11 @@ not_there entry parent name q m y same none is = none_some _ y none (ap (λ k. e
 
 -- ---- shapes that are the same
 
+-- two shapes are alike
 pub record Same (v w : Shape) : Type 0 where
   pub kind : (inode : ℕ) → w.kind inode ≡ v.kind inode
   pub entry : (parent : ℕ) (name : List ℕ) → w.entry parent name ≡ v.entry parent name
   pub opened : (inode : ℕ) → w.opened inode ≡ v.opened inode
-
-pub same_trans : (u v w : Shape) → Same u v → Same v w → Same u w
-same_trans u v w first second = record {
-  kind = λ inode. second.kind inode ∙ first.kind inode;
-  entry = λ parent name. second.entry parent name ∙ first.entry parent name;
-  opened = λ inode. second.opened inode ∙ first.opened inode;
-}
 
 -- a way up that every entry of it keeps
 pub leads_on : (entry after : ℕ → List ℕ → Option ℕ) → ((parent inode : ℕ) (name : List ℕ) → entry parent name ≡ Some inode → after parent name ≡ Some inode) → (steps inode : ℕ)

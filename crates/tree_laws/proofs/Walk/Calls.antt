@@ -24,9 +24,11 @@ after_call P t pass now op before after = call_if P t pass now op (first_failure
 pub effects-tree_after : (t : Tree) (pass now : ℕ) (op : Op) (P : Tree → Type 0) → Effects t pass now op P → P (tree_after t pass op now)
 effects-tree_after t pass now op P effects = after_call P t pass now op effects.same (λ passes. effects-effect t pass now op P effects passes)
 
+-- what relates the trees of each primitive change relates those of a call
 pub walk-tree_after : (t : Tree) (pass now : ℕ) (R : Tree → Tree → Type 0) → Walk t now R → (op : Op) → R t (tree_after t pass op now)
 walk-tree_after t pass now R walk op = effects-tree_after t pass now op (R t) (effects_by_walk t pass now op R walk)
 
+-- and those of a list of calls
 pub walk-tree_after_all : (R : Tree → Tree → Type 0) → ((t : Tree) (now : ℕ) → Walk t now R) → (t : Tree) (calls : List Request) → R t (tree_after_all t calls)
 walk-tree_after_all R walk t [] = (walk t 0).same t
 walk-tree_after_all R walk t (call ∷ calls) =
@@ -49,6 +51,7 @@ passes_if t pass now op not_refused (Some n) is = absurd (not_refused (record { 
 pub passes_by : (t : Tree) (pass now : ℕ) (op : Op) → ((errno : Errno) → reply_to t pass op now ≡ replies.Errno errno → ⊥) → first_failure (checks t pass op) ≡ None
 passes_by t pass now op not_refused = passes_if t pass now op not_refused (first_failure (checks t pass op)) refl
 
+-- what is answered Done has passed all checks
 pub passes_if_done : (t : Tree) (pass now : ℕ) (op : Op) → reply_to t pass op now ≡ replies.Done → first_failure (checks t pass op) ≡ None
 passes_if_done t pass now op done =
     passes_by t pass now op (λ errno refused.

@@ -7,6 +7,7 @@ use Rattle.plain_tree.specs.Operations.{new_file, new_directory, new_link}
 use Rattle.plain_tree.specs.Pages.{with_attribute, without_attribute}
 use Rattle.plain_tree.specs.Tree.{Node, Tree, node_at, named, touched, stamped}
 
+-- what an operation writes into a node that is there
 pub data Edit : Type 0 where
   Stamp : Edit
   Mode : (mode : ℕ) → Edit
@@ -53,6 +54,7 @@ SparesEntries (Entry name inode) = ⊥
 SparesEntries (NoEntry name) = ⊥
 SparesEntries e = Unit {0}
 
+-- a node that an operation makes
 pub data NewNode : Type 0 where
   File : (mode uid gid : ℕ) → NewNode
   Folder : (mode uid gid : ℕ) → NewNode

@@ -35,6 +35,7 @@ pub record Effects (t : Tree) (pass now : ℕ) (op : Op) (P : Tree → Type 0) :
   pub uproots : (p : ℕ) (n : List ℕ) → op ≡ ops.RemoveTree p n → CanUproot t p n → P (without_tree p n now (entry_at t p n) t)
   pub leaves : P (without_pass pass t)
 
+-- what holds after each way to change a tree holds after the operation
 pub effects-effect : (t : Tree) (pass now : ℕ) (op : Op) (P : Tree → Type 0) → Effects t pass now op P → first_failure (checks t pass op) ≡ None → P (effect t pass op now)
 effects-effect t pass now (ops.Chmod x mode) P effects passes =
     let all = all_pass (checks t pass (ops.Chmod x mode)) passes in

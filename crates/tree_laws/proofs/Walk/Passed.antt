@@ -10,6 +10,7 @@ use Rattle.plain_tree.specs.Operations.{checks, make_checks, drop_checks, move_c
 use Rattle.plain_tree.specs.Subtrees.{is_same}
 use Rattle.plain_tree.specs.Tree.{Tree, node_at}
 
+-- no check fails
 abbrev pub AllPass : List (Option ℕ) → Type 0
 AllPass [] = Unit {0}
 AllPass (check ∷ others) = (check ≡ None) × AllPass others
@@ -65,17 +66,20 @@ pub record CanDrop (t : Tree) (p : ℕ) (n : List ℕ) : Type 0 where
   pub kept : keep_check p n ≡ None
   pub entry : entry_check (entry_at t p n) ≡ None
 
+-- of an entry of what is no directory
 pub record CanUnlink (t : Tree) (p : ℕ) (n : List ℕ) : Type 0 where
   pub drop : CanDrop t p n
   pub file : no_directory_check 21 (child_at t p n) ≡ None
   pub child_unlocked : lock_check (child_at t p n) ≡ None
 
+-- of an entry of an empty directory
 pub record CanUnmake (t : Tree) (p : ℕ) (n : List ℕ) : Type 0 where
   pub drop : CanDrop t p n
   pub child_folder : directory_check (child_at t p n) ≡ None
   pub child_unlocked : lock_check (child_at t p n) ≡ None
   pub empty : empty_check (child_at t p n) ≡ None
 
+-- of an entry of a directory with all below it
 pub record CanUproot (t : Tree) (p : ℕ) (n : List ℕ) : Type 0 where
   pub drop : CanDrop t p n
   pub child_folder : directory_check (child_at t p n) ≡ None

@@ -1,4 +1,4 @@
-use Rattle.tree_laws.proofs.Removal.{removed_after}
+use Rattle.tree_laws.proofs.Removal.Law.{removed_after}
 use Rattle.tree_laws.proofs.removals.reached_removal_removes_what_it_names.Goals as goal
 
 pub returns : goal.returns

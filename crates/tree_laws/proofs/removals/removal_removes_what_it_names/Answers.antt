@@ -1,4 +1,4 @@
-use Rattle.tree_laws.proofs.Removal.{removed_in}
+use Rattle.tree_laws.proofs.Removal.Law.{removed_in}
 use Rattle.tree_laws.proofs.removals.removal_removes_what_it_names.Goals as goal
 
 pub returns : goal.returns
