@@ -83,138 +83,137 @@ pub record CanBeCopied (t : Tree) (source p : ℕ) (n : List ℕ) : Type 0 where
   pub outside : is_among (at_and_below t source) p ≡ false
   pub free : entry_at t p n ≡ None
 
--- what lies at or below the source is there
-pub node_below : (t : Tree) (source p : ℕ) (n : List ℕ) → CanBeCopied t source p n → (x : ℕ) → is_among (at_and_below t source) x ≡ true → (node : Node) × (node_at t x ≡ Some node)
-node_below t source p n can x among =
-    elim ((below_shape t can.names source).up x among) [
-      | inl same ↦
-          let node = kind_some (node_at t source) kinds.Directory can.folder in
-          (node.0, ap (node_at t) same ∙ node.1)
-      | inr from ↦ some_node (node_at t x) (can.tree.entries from.0 x from.1 from.3)
-    ]
+-- a subtree that can be copied
+module _ (t : Tree) (source p : ℕ) (n : List ℕ) (can : CanBeCopied t source p n) where
+  -- what lies at or below the source is there
+  pub node_below : (x : ℕ) → is_among (at_and_below t source) x ≡ true → (node : Node) × (node_at t x ≡ Some node)
+  node_below x among =
+      elim ((below_shape t can.names source).up x among) [
+        | inl same ↦
+            let node = kind_some (node_at t source) kinds.Directory can.folder in
+            (node.0, ap (node_at t) same ∙ node.1)
+        | inr from ↦ some_node (node_at t x) (can.tree.entries from.0 x from.1 from.3)
+      ]
 
-parent_fits : (t : Tree) (source p : ℕ) (n : List ℕ) → CanBeCopied t source p n → p < t.next_inode
-parent_fits t source p n can =
-    let node = kind_some (node_at t p) kinds.Directory can.parent in
-    lookup_below_next p 0 t.nodes t.next_inode node.0 can.ordered node.1
+  parent_fits : p < t.next_inode
+  parent_fits =
+      let node = kind_some (node_at t p) kinds.Directory can.parent in
+      lookup_below_next p 0 t.nodes t.next_inode node.0 can.ordered node.1
 
-shaped : (t : Tree) (source p : ℕ) (n : List ℕ) (now : ℕ) → CanBeCopied t source p n
-    → Copies (shape_of t) (shape_of (with_copy source p n now t)) p n source (is_among (at_and_below t source)) (copy_number t.next_inode (at_and_below t source))
-shaped t source p n now can = shape-with_copy source p n now t can.ordered can.parent can.free (below_shape t can.names source).itself
+  shaped : (now : ℕ) → Copies (shape_of t) (shape_of (with_copy source p n now t)) p n source (is_among (at_and_below t source)) (copy_number t.next_inode (at_and_below t source))
+  shaped now = shape-with_copy source p n now t can.ordered can.parent can.free (below_shape t can.names source).itself
 
--- the copy of a node
-copy_there : (t : Tree) (source p : ℕ) (n : List ℕ) (now : ℕ) → CanBeCopied t source p n → (x : ℕ) (node : Node) → is_among (at_and_below t source) x ≡ true → node_at t x ≡ Some node
-    → node_at (with_copy source p n now t) (number_of t source x) ≡ Some (copied_node t.next_inode (at_and_below t source) now node)
-copy_there t source p n now can x node among is =
-    let order : List ℕ = at_and_below t source in
-    let fits : p < t.next_inode = parent_fits t source p n can in
-    node_at-change_node_other _ p (number_of t source x) (with_copies t order now) (λ same. omega (arith, same, fits)) ∙ new_node t can.ordered order now x node among is
+  -- the copy of a node
+  copy_there : (now : ℕ) → (x : ℕ) (node : Node) → is_among (at_and_below t source) x ≡ true → node_at t x ≡ Some node → node_at (with_copy source p n now t) (number_of t source x) ≡ Some (copied_node t.next_inode (at_and_below t source) now node)
+  copy_there now x node among is =
+      let order : List ℕ = at_and_below t source in
+      let fits : p < t.next_inode = parent_fits in
+      node_at-change_node_other _ p (number_of t source x) (with_copies t order now) (λ same. omega (arith, same, fits)) ∙ new_node t can.ordered order now x node among is
 
-copied_alike : (t : Tree) (source p : ℕ) (n : List ℕ) (now : ℕ) → CanBeCopied t source p n → (x : ℕ) (name : List ℕ) → is_among (at_and_below t source) x ≡ true
-    → entry_at (with_copy source p n now t) (number_of t source x) name ≡ option_map (number_of t source) (entry_at t x name)
-copied_alike t source p n now can x name among =
-    let order : List ℕ = at_and_below t source in
-    let node = node_below t source p n can x among in
-    ap (entry_in name) (copy_there t source p n now can x node.0 among node.1)
-    ∙ entry_copied t.next_inode order node.0.content name
-    ∙ ap (λ found. option_map (number_of t source) (entry_in name found)) (sym node.1)
+  copied_alike : (now : ℕ) → (x : ℕ) (name : List ℕ) → is_among (at_and_below t source) x ≡ true → entry_at (with_copy source p n now t) (number_of t source x) name ≡ option_map (number_of t source) (entry_at t x name)
+  copied_alike now x name among =
+      let order : List ℕ = at_and_below t source in
+      let node = node_below x among in
+      ap (entry_in name) (copy_there now x node.0 among node.1)
+      ∙ entry_copied t.next_inode order node.0.content name
+      ∙ ap (λ found. option_map (number_of t source) (entry_in name found)) (sym node.1)
 
-gains : (t : Tree) (source p : ℕ) (n : List ℕ) (now : ℕ) → CanBeCopied t source p n → HasOneMore p n (number_of t source source) now t (with_copy source p n now t)
-gains t source p n now can =
-    let order : List ℕ = at_and_below t source in
-    let more : Tree = with_copies t order now in
-    let node = kind_some (node_at t p) kinds.Directory can.parent in
-    let entries = folder_entries node.0.content node.2 in
-    let old : node_at more p ≡ node_at t p = node_before t source now p (parent_fits t source p n can) in
-    let links : Links (shape_of more) (shape_of (with_copy source p n now t)) p n t.next_inode = shape-add_entry p n t.next_inode now more (ap kind_in old ∙ can.parent) in
-    record {
-      node = node.0;
-      old = entries.0;
-      new = insert_entry (slice_cmp nat_cmp) entries.0 n t.next_inode;
-      was = node.1;
-      was_folder = entries.1;
-      is = node_at-change_node_same _ p more ∙ ap (option_map (λ node. touched now (record node { content = named n t.next_inode node.content }))) (old ∙ node.1)
-          ∙ ap (λ c. Some (touched now (record node.0 { content = named n t.next_inode c }))) entries.1;
-      size_is = longer n t.next_inode entries.0 (sym (ap (entry_in n) node.1 ∙ ap (λ c. entry_of c n) entries.1) ∙ can.free);
-      free = can.free;
-      entry = (shaped t source p n now can).here;
-      others = λ other apart. links.rest p other (λ place. apart place.1) ∙ ap (entry_in other) old;
-    }
+  gains : (now : ℕ) → HasOneMore p n (number_of t source source) now t (with_copy source p n now t)
+  gains now =
+      let order : List ℕ = at_and_below t source in
+      let more : Tree = with_copies t order now in
+      let node = kind_some (node_at t p) kinds.Directory can.parent in
+      let entries = folder_entries node.0.content node.2 in
+      let old : node_at more p ≡ node_at t p = node_before t source now p (parent_fits) in
+      let links : Links (shape_of more) (shape_of (with_copy source p n now t)) p n t.next_inode = shape-add_entry p n t.next_inode now more (ap kind_in old ∙ can.parent) in
+      record {
+        node = node.0;
+        old = entries.0;
+        new = insert_entry (slice_cmp nat_cmp) entries.0 n t.next_inode;
+        was = node.1;
+        was_folder = entries.1;
+        is = node_at-change_node_same _ p more ∙ ap (option_map (λ node. touched now (record node { content = named n t.next_inode node.content }))) (old ∙ node.1)
+            ∙ ap (λ c. Some (touched now (record node.0 { content = named n t.next_inode c }))) entries.1;
+        size_is = longer n t.next_inode entries.0 (sym (ap (entry_in n) node.1 ∙ ap (λ c. entry_of c n) entries.1) ∙ can.free);
+        free = can.free;
+        entry = (shaped now).here;
+        others = λ other apart. links.rest p other (λ place. apart place.1) ∙ ap (entry_in other) old;
+      }
 
-leaves : (t : Tree) (source p : ℕ) (n : List ℕ) (now : ℕ) → CanBeCopied t source p n → LeavesTheRest source p t (with_copy source p n now t)
-leaves t source p n now can =
-    let more : Tree = with_copies t (at_and_below t source) now in
-    let f : Node → Node = λ node. touched now (record node { content = named n t.next_inode node.content }) in
-    let only : ChangesOneNode p more (with_copy source p n now t) = changes_found f p more (node_at more p) refl in
-    record {
-      others = λ x less apart. only.others x apart ∙ node_before t source now x less;
-      outside = can.outside;
-      next_inode = only.next_inode;
-      handles = only.handles;
-      next_handle = only.next_handle;
-      block_size = only.block_size;
-    }
+  leaves : (now : ℕ) → LeavesTheRest source p t (with_copy source p n now t)
+  leaves now =
+      let more : Tree = with_copies t (at_and_below t source) now in
+      let f : Node → Node = λ node. touched now (record node { content = named n t.next_inode node.content }) in
+      let only : ChangesOneNode p more (with_copy source p n now t) = changes_found f p more (node_at more p) refl in
+      record {
+        others = λ x less apart. only.others x apart ∙ node_before t source now x less;
+        outside = can.outside;
+        next_inode = only.next_inode;
+        handles = only.handles;
+        next_handle = only.next_handle;
+        block_size = only.block_size;
+      }
 
-first_number : (t : Tree) (source p : ℕ) (n : List ℕ) (now : ℕ) → CanBeCopied t source p n → number_of t source source ≡ t.next_inode
-first_number t source p n now can =
-    let more : Tree = with_copies t (at_and_below t source) now in
-    let old : node_at more p ≡ node_at t p = node_before t source now p (parent_fits t source p n can) in
-    let links : Links (shape_of more) (shape_of (with_copy source p n now t)) p n t.next_inode = shape-add_entry p n t.next_inode now more (ap kind_in old ∙ can.parent) in
-    let both_ways : Some (number_of t source source) ≡ Some t.next_inode = sym (shaped t source p n now can).here ∙ links.here in
-    cc both_ways
+  first_number : (now : ℕ) → number_of t source source ≡ t.next_inode
+  first_number now =
+      let more : Tree = with_copies t (at_and_below t source) now in
+      let old : node_at more p ≡ node_at t p = node_before t source now p (parent_fits) in
+      let links : Links (shape_of more) (shape_of (with_copy source p n now t)) p n t.next_inode = shape-add_entry p n t.next_inode now more (ap kind_in old ∙ can.parent) in
+      let both_ways : Some (number_of t source source) ≡ Some t.next_inode = sym (shaped now).here ∙ links.here in
+      cc both_ways
 
-news : (t : Tree) (source p : ℕ) (n : List ℕ) (now : ℕ) → CanBeCopied t source p n → IsNew source t (with_copy source p n now t)
-news t source p n now can =
-    let after : Tree = with_copy source p n now t in
-    let copied : Copies (shape_of t) (shape_of after) p n source (is_among (at_and_below t source)) (copy_number t.next_inode (at_and_below t source)) = shaped t source p n now can in
-    let rest : LeavesTheRest source p t after = leaves t source p n now can in
-    record {
-      only = λ z less there.
-          let node = some_node (node_at after z) there in
-          elim (copied.from_kind z (kind_of node.0.content) (ap kind_in node.1)) [
-            | inl old ↦ absurd (none_some (kind_in (node_at t z)) (kind_of node.0.content) (ap kind_in (node_at_none_next t can.ordered z less)) old)
-            | inr from ↦ (from.of, from.within, from.is)
-          ];
-      apart = copied.apart;
-      from = λ x among. omega arith;
-      up_to = λ x among. omega (arith, rest.next_inode, place_within (at_and_below t source) x among);
-    }
+  news : (now : ℕ) → IsNew source t (with_copy source p n now t)
+  news now =
+      let after : Tree = with_copy source p n now t in
+      let copied : Copies (shape_of t) (shape_of after) p n source (is_among (at_and_below t source)) (copy_number t.next_inode (at_and_below t source)) = shaped now in
+      let rest : LeavesTheRest source p t after = leaves now in
+      record {
+        only = λ z less there.
+            let node = some_node (node_at after z) there in
+            elim (copied.from_kind z (kind_of node.0.content) (ap kind_in node.1)) [
+              | inl old ↦ absurd (none_some (kind_in (node_at t z)) (kind_of node.0.content) (ap kind_in (node_at_none_next t can.ordered z less)) old)
+              | inr from ↦ (from.of, from.within, from.is)
+            ];
+        apart = copied.apart;
+        from = λ x among. omega arith;
+        up_to = λ x among. omega (arith, rest.next_inode, place_within (at_and_below t source) x among);
+      }
 
-alike : (t : Tree) (source p : ℕ) (n : List ℕ) (now : ℕ) → CanBeCopied t source p n → IsAlike source now t (with_copy source p n now t)
-alike t source p n now can =
-    let order : List ℕ = at_and_below t source in
-    let after : Tree = with_copy source p n now t in
-    let below : IsBelow (shape_of t) source (is_among order) = below_shape t can.names source in
-    record {
-      itself = below.itself;
-      first = first_number t source p n now can;
-      down = λ x y name among is. below.down x y name among is;
-      up = λ x among. below.up x among;
-      copies = λ x among.
-          let node = node_below t source p n can x among in (
-            node.0,
-            copied_node t.next_inode order now node.0,
-            node.1,
-            copy_there t source p n now can x node.0 among node.1,
-            record {
-              mode = refl;
-              uid = refl;
-              gid = refl;
-              mtime = refl;
-              ctime = refl;
-              unlocked = refl;
-              attributes = refl;
-              content = copied_is t.next_inode order node.0.content;
-            },
-          );
-      entries = λ x name among. copied_alike t source p n now can x name among;
-      shared = λ x y name other first second is.
-          one_of (number_of t source) (λ k. is_among order k ≡ true) (shaped t source p n now can).apart (entry_at t x name) (entry_at t y other)
-          (λ k names. below.down x k name first names) (λ k names. below.down y k other second names)
-          (sym (copied_alike t source p n now can x name first) ∙ is ∙ copied_alike t source p n now can y other second);
-      share = λ x y name other first second is.
-          copied_alike t source p n now can x name first ∙ ap (option_map (number_of t source)) is ∙ sym (copied_alike t source p n now can y other second);
-    }
+  alike : (now : ℕ) → IsAlike source now t (with_copy source p n now t)
+  alike now =
+      let order : List ℕ = at_and_below t source in
+      let after : Tree = with_copy source p n now t in
+      let below : IsBelow (shape_of t) source (is_among order) = below_shape t can.names source in
+      record {
+        itself = below.itself;
+        first = first_number now;
+        down = λ x y name among is. below.down x y name among is;
+        up = λ x among. below.up x among;
+        copies = λ x among.
+            let node = node_below x among in (
+              node.0,
+              copied_node t.next_inode order now node.0,
+              node.1,
+              copy_there now x node.0 among node.1,
+              record {
+                mode = refl;
+                uid = refl;
+                gid = refl;
+                mtime = refl;
+                ctime = refl;
+                unlocked = refl;
+                attributes = refl;
+                content = copied_is t.next_inode order node.0.content;
+              },
+            );
+        entries = λ x name among. copied_alike now x name among;
+        shared = λ x y name other first second is.
+            one_of (number_of t source) (λ k. is_among order k ≡ true) (shaped now).apart (entry_at t x name) (entry_at t y other)
+            (λ k names. below.down x k name first names) (λ k names. below.down y k other second names)
+            (sym (copied_alike now x name first) ∙ is ∙ copied_alike now y other second);
+        share = λ x y name other first second is.
+            copied_alike now x name first ∙ ap (option_map (number_of t source)) is ∙ sym (copied_alike now y other second);
+      }
 
 -- ---- the call
 
@@ -249,4 +248,4 @@ pub copy_done : (t : Tree) (pass now source p : ℕ) (n : List ℕ) (attr : Attr
 copy_done t pass now source p n attr ordered names tree replied =
     let can : CanBeCopied t source p n = can_be t pass now source p n attr ordered names tree replied in
     rw (tree_at t pass now (ops.CopyTree source p n) None (copied_passes t pass now source p n attr replied))
-    (record { gains = gains t source p n now can; rest = leaves t source p n now can; new = news t source p n now can; alike = alike t source p n now can })
+    (record { gains = gains t source p n can now; rest = leaves t source p n can now; new = news t source p n can now; alike = alike t source p n can now })

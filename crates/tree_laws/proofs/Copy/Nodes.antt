@@ -94,67 +94,13 @@ pub record FromCopy (t : Tree) (order : List ℕ) (now : ℕ) (inodes : List ℕ
   pub there : node_at t of ≡ Some original
   pub is : node ≡ copy_of t order now original
 
-from_later : (t : Tree) (order : List ℕ) (now inode : ℕ) (inodes : List ℕ) (z : ℕ) (node : Node) → FromCopy t order now inodes z node → FromCopy t order now (inode ∷ inodes) z node
-from_later t order now inode inodes z node from = record {
-  of = from.of;
-  original = from.original;
-  among = or_right (inode == from.of) (is_among inodes from.of) from.among;
-  number = from.number;
-  there = from.there;
-  is = from.is;
-}
-
-from_here : (t : Tree) (order : List ℕ) (now inode : ℕ) (inodes : List ℕ) (z : ℕ) (original node : Node) (found : Option Node) (test : Bool) → is_at (nat_cmp z) (number_of t order inode) ≡ test
-    → node_at t inode ≡ Some original → (found ≡ Some node → FromCopy t order now inodes z node) → cond test (Some (copy_of t order now original)) found ≡ Some node
-    → FromCopy t order now (inode ∷ inodes) z node
-from_here t order now inode inodes z original node found true here there rest is =
-    let same : copy_of t order now original ≡ node = cc is in
-    record {
-      of = inode;
-      original = original;
-      among = or_left (inode == inode) (is_among inodes inode) (eq-eqb inode inode refl);
-      number = same_number z (number_of t order inode) here;
-      there = there;
-      is = sym same;
-    }
-from_here t order now inode inodes z original node found false here there rest is = from_later t order now inode inodes z node (rest is)
-
 abbrev next_copies : Tree → List ℕ → ℕ → ℕ → List ℕ → Option Node → List (ℕ × Node)
 next_copies t order now inode inodes found =
     elim found as (λ _. List (ℕ × Node)) [ Some node ↦ (copy_number t.next_inode order inode, copied_node t.next_inode order now node) ∷ copies t order now inodes | None ↦ copies t order now inodes ]
 
-from_if : (t : Tree) (order : List ℕ) (now inode : ℕ) (inodes : List ℕ) (z : ℕ) (node : Node) (found : Option Node) → node_at t inode ≡ found
-    → (lookup (is_at (nat_cmp z)) (copies t order now inodes) ≡ Some node → FromCopy t order now inodes z node)
-    → lookup (is_at (nat_cmp z)) (next_copies t order now inode inodes found) ≡ Some node → FromCopy t order now (inode ∷ inodes) z node
-from_if t order now inode inodes z node None there rest is = from_later t order now inode inodes z node (rest is)
-from_if t order now inode inodes z node (Some original) there rest is =
-    from_here t order now inode inodes z original node (lookup (is_at (nat_cmp z)) (copies t order now inodes)) (is_at (nat_cmp z) (number_of t order inode)) refl there rest is
-
-from_copies : (t : Tree) (order : List ℕ) (now : ℕ) (inodes : List ℕ) (z : ℕ) (node : Node) → lookup (is_at (nat_cmp z)) (copies t order now inodes) ≡ Some node → FromCopy t order now inodes z node
-from_copies t order now [] z node is = absurd (cc is)
-from_copies t order now (inode ∷ inodes) z node is = from_if t order now inode inodes z node (node_at t inode) refl (from_copies t order now inodes z node) is
-
 -- another inode has another number
 other_copy : (t : Tree) (order : List ℕ) (y z : ℕ) → is_among order y ≡ true → y ≢ z → number_of t order y ≢ number_of t order z
 other_copy t order y z among apart same = apart (place_of-one order y z among (omega (arith, same)))
-
-to_if : (t : Tree) (order : List ℕ) (now inode : ℕ) (inodes : List ℕ) (y : ℕ) (node : Node) (found : Option Node) → node_at t inode ≡ found → is_among order y ≡ true → node_at t y ≡ Some node
-    → (is_among inodes y ≡ true → lookup (is_at (nat_cmp (number_of t order y))) (copies t order now inodes) ≡ Some (copy_of t order now node)) → ((inode ≡ y) ⊎ (is_among inodes y ≡ true))
-    → (inode ≡ y) ⊎ (inode ≢ y) → lookup (is_at (nat_cmp (number_of t order y))) (next_copies t order now inode inodes found) ≡ Some (copy_of t order now node)
-to_if t order now inode inodes y node None there among is rest which (inl same) =
-    absurd (none_some (node_at t inode) node there (ap (node_at t) same ∙ is))
-to_if t order now inode inodes y node None there among is rest (inl same) (inr apart) = absurd (apart same)
-to_if t order now inode inodes y node None there among is rest (inr later) (inr apart) = rest later
-to_if t order now inode inodes y node (Some original) there among is rest which (inl same) =
-    let one : original ≡ node = one_some _ original node there (ap (node_at t) same ∙ is) in
-    ap (λ b. cond b (Some (copy_of t order now original)) (lookup (is_at (nat_cmp (number_of t order y))) (copies t order now inodes)))
-    (ap (λ k. is_at (nat_cmp (number_of t order y)) (number_of t order k)) same ∙ own_number (number_of t order y))
-    ∙ ap (λ o. Some (copy_of t order now o)) one
-to_if t order now inode inodes y node (Some original) there among is rest (inl same) (inr apart) = absurd (apart same)
-to_if t order now inode inodes y node (Some original) there among is rest (inr later) (inr apart) =
-    ap (λ b. cond b (Some (copy_of t order now original)) (lookup (is_at (nat_cmp (number_of t order y))) (copies t order now inodes)))
-    (other_number (number_of t order y) (number_of t order inode) (other_copy t order y inode among (λ same. apart (sym same))))
-    ∙ rest later
 
 which_one : (inode y : ℕ) (inodes : List ℕ) → is_among (inode ∷ inodes) y ≡ true → (inode ≡ y) ⊎ (is_among inodes y ≡ true)
 which_one inode y inodes is =
@@ -163,11 +109,60 @@ which_one inode y inodes is =
       | inr later ↦ inr later
     ]
 
-to_copies : (t : Tree) (order : List ℕ) (now : ℕ) (inodes : List ℕ) (y : ℕ) (node : Node) → is_among order y ≡ true → is_among inodes y ≡ true → node_at t y ≡ Some node
-    → lookup (is_at (nat_cmp (number_of t order y))) (copies t order now inodes) ≡ Some (copy_of t order now node)
-to_copies t order now [] y node among within is = absurd (cc within)
-to_copies t order now (inode ∷ inodes) y node among within is =
-    to_if t order now inode inodes y node (node_at t inode) refl among is (λ later. to_copies t order now inodes y node among later is) (which_one inode y inodes within) (cases_eq inode y)
+-- copies of the inodes of a list
+module _ (t : Tree) (order : List ℕ) (now : ℕ) where
+  from_later : (inode : ℕ) (inodes : List ℕ) (z : ℕ) (node : Node) → FromCopy t order now inodes z node → FromCopy t order now (inode ∷ inodes) z node
+  from_later inode inodes z node from = record {
+    of = from.of;
+    original = from.original;
+    among = or_right (inode == from.of) (is_among inodes from.of) from.among;
+    number = from.number;
+    there = from.there;
+    is = from.is;
+  }
+
+  from_here : (inode : ℕ) (inodes : List ℕ) (z : ℕ) (original node : Node) (found : Option Node) (test : Bool) → is_at (nat_cmp z) (number_of t order inode) ≡ test → node_at t inode ≡ Some original → (found ≡ Some node → FromCopy t order now inodes z node) → cond test (Some (copy_of t order now original)) found ≡ Some node → FromCopy t order now (inode ∷ inodes) z node
+  from_here inode inodes z original node found true here there rest is =
+      let same : copy_of t order now original ≡ node = cc is in
+      record {
+        of = inode;
+        original = original;
+        among = or_left (inode == inode) (is_among inodes inode) (eq-eqb inode inode refl);
+        number = same_number z (number_of t order inode) here;
+        there = there;
+        is = sym same;
+      }
+  from_here inode inodes z original node found false here there rest is = from_later inode inodes z node (rest is)
+
+  from_if : (inode : ℕ) (inodes : List ℕ) (z : ℕ) (node : Node) (found : Option Node) → node_at t inode ≡ found → (lookup (is_at (nat_cmp z)) (copies t order now inodes) ≡ Some node → FromCopy t order now inodes z node) → lookup (is_at (nat_cmp z)) (next_copies t order now inode inodes found) ≡ Some node → FromCopy t order now (inode ∷ inodes) z node
+  from_if inode inodes z node None there rest is = from_later inode inodes z node (rest is)
+  from_if inode inodes z node (Some original) there rest is =
+      from_here inode inodes z original node (lookup (is_at (nat_cmp z)) (copies t order now inodes)) (is_at (nat_cmp z) (number_of t order inode)) refl there rest is
+
+  from_copies : (inodes : List ℕ) (z : ℕ) (node : Node) → lookup (is_at (nat_cmp z)) (copies t order now inodes) ≡ Some node → FromCopy t order now inodes z node
+  from_copies [] z node is = absurd (cc is)
+  from_copies (inode ∷ inodes) z node is = from_if inode inodes z node (node_at t inode) refl (from_copies inodes z node) is
+
+  to_if : (inode : ℕ) (inodes : List ℕ) (y : ℕ) (node : Node) (found : Option Node) → node_at t inode ≡ found → is_among order y ≡ true → node_at t y ≡ Some node → (is_among inodes y ≡ true → lookup (is_at (nat_cmp (number_of t order y))) (copies t order now inodes) ≡ Some (copy_of t order now node)) → ((inode ≡ y) ⊎ (is_among inodes y ≡ true)) → (inode ≡ y) ⊎ (inode ≢ y) → lookup (is_at (nat_cmp (number_of t order y))) (next_copies t order now inode inodes found) ≡ Some (copy_of t order now node)
+  to_if inode inodes y node None there among is rest which (inl same) =
+      absurd (none_some (node_at t inode) node there (ap (node_at t) same ∙ is))
+  to_if inode inodes y node None there among is rest (inl same) (inr apart) = absurd (apart same)
+  to_if inode inodes y node None there among is rest (inr later) (inr apart) = rest later
+  to_if inode inodes y node (Some original) there among is rest which (inl same) =
+      let one : original ≡ node = one_some _ original node there (ap (node_at t) same ∙ is) in
+      ap (λ b. cond b (Some (copy_of t order now original)) (lookup (is_at (nat_cmp (number_of t order y))) (copies t order now inodes)))
+      (ap (λ k. is_at (nat_cmp (number_of t order y)) (number_of t order k)) same ∙ own_number (number_of t order y))
+      ∙ ap (λ o. Some (copy_of t order now o)) one
+  to_if inode inodes y node (Some original) there among is rest (inl same) (inr apart) = absurd (apart same)
+  to_if inode inodes y node (Some original) there among is rest (inr later) (inr apart) =
+      ap (λ b. cond b (Some (copy_of t order now original)) (lookup (is_at (nat_cmp (number_of t order y))) (copies t order now inodes)))
+      (other_number (number_of t order y) (number_of t order inode) (other_copy t order y inode among (λ same. apart (sym same))))
+      ∙ rest later
+
+  to_copies : (inodes : List ℕ) (y : ℕ) (node : Node) → is_among order y ≡ true → is_among inodes y ≡ true → node_at t y ≡ Some node → lookup (is_at (nat_cmp (number_of t order y))) (copies t order now inodes) ≡ Some (copy_of t order now node)
+  to_copies [] y node among within is = absurd (cc within)
+  to_copies (inode ∷ inodes) y node among within is =
+      to_if inode inodes y node (node_at t inode) refl among is (λ later. to_copies inodes y node among later is) (which_one inode y inodes within) (cases_eq inode y)
 
 -- ---- a tree with copies
 

@@ -48,9 +48,6 @@ pub record Held (t : Tree) (p x : ℕ) (n : List ℕ) (node : Node) : Type 0 whe
   pub locked : node.locked ≡ true
   pub names : entry_at t p n ≡ Some x
 
-folder_of : (t : Tree) (p x : ℕ) (n : List ℕ) (node : Node) → Held t p x n node → kind_in (node_at t p) ≡ Some kinds.Directory
-folder_of t p x n node held = held.sound.grown.holds p x n held.names
-
 -- a directory but the root is named
 not_alone : (t : Tree) → Sound t → (p : ℕ) → kind_in (node_at t p) ≡ Some kinds.Directory → IsUnnamed (shape_of t) p → p ≢ root → ⊥
 not_alone t sound p folder unnamed inner =
@@ -64,10 +61,6 @@ elsewhere t p x n names q m free place = not_there (entry_at t) q m p n x place 
 -- the entry at a place names what is there
 at_place : (t : Tree) (p x : ℕ) (n : List ℕ) → entry_at t p n ≡ Some x → (q : ℕ) (m : List ℕ) → IsPlace q m p n → entry_at t q m ≡ Some x
 at_place t p x n names q m place = ap (λ k. entry_at t k m) (sym place.0) ∙ ap (entry_at t p) (sym place.1) ∙ names
-
--- an entry whose node is not locked is another
-another : (t : Tree) (p x : ℕ) (n : List ℕ) (node : Node) → Held t p x n node → (q : ℕ) (m : List ℕ) → lock_check (child_at t q m) ≡ None → IsPlace q m p n → ⊥
-another t p x n node held q m unlocked place = locked_fails (child_at t q m) node (ap (option_and_then (node_at t)) (at_place t p x n held.names q m place) ∙ held.is) held.locked unlocked
 
 -- ---- nodes that go
 
@@ -96,53 +89,59 @@ made t q m new now ordered parent free p x n folder names =
     shape-add_entry q m t.next_inode now more (ap kind_in (node_at-with_node_other new t q (old q parent)) ∙ parent) in
     links.rest p n (elsewhere t p x n names q m free) ∙ ap (entry_in n) (node_at-with_node_other new t p (old p folder)) ∙ names
 
--- a directory that has entries is none that the checks found empty
-not_empty : (t : Tree) (p x : ℕ) (n : List ℕ) (node : Node) → Held t p x n node → (q : ℕ) (m : List ℕ) → empty_check (child_at t q m) ≡ None → (y : ℕ) → entry_at t q m ≡ Some y → p ≢ y
-not_empty t p x n node held q m empty y is same =
-    let bare : entry_in n (child_at t q m) ≡ None = empty_is (child_at t q m) empty n in
-    none_some (entry_at t p n) x (ap (λ k. entry_at t k n) same ∙ sym (ap (λ o. entry_in n (option_and_then (node_at t) o)) is) ∙ bare) held.names
+-- an entry that names a locked node
+module _ (t : Tree) (p x : ℕ) (n : List ℕ) (node : Node) (held : Held t p x n node) where
+  folder_of : kind_in (node_at t p) ≡ Some kinds.Directory
+  folder_of = held.sound.grown.holds p x n held.names
 
--- ---- renames
+  -- an entry whose node is not locked is another
+  another : (q : ℕ) (m : List ℕ) → lock_check (child_at t q m) ≡ None → IsPlace q m p n → ⊥
+  another q m unlocked place = locked_fails (child_at t q m) node (ap (option_and_then (node_at t)) (at_place t p x n held.names q m place) ∙ held.is) held.locked unlocked
 
-moved : (t : Tree) (p x : ℕ) (n : List ℕ) (node : Node) → Held t p x n node → (q : ℕ) (m : List ℕ) (nq : ℕ) (nm : List ℕ) (now : ℕ) → CanMove t q m nq nm → (found : Option ℕ)
-    → entry_at (moved_entry q m nq nm now found t) p n ≡ Some x
-moved t p x n node held q m nq nm now can None = held.names
-moved t p x n node held q m nq nm now can (Some y) =
-    let one : Tree = drop_entry q m now t in
-    let two : Tree = drop_entry nq nm now one in
-    let three : Tree = add_entry nq nm y now two in
-    let first : Unlinks (shape_of t) (shape_of one) q m = shape-drop_entry q m now t held.sound.names in
-    let second : Unlinks (shape_of one) (shape_of two) nq nm = shape-drop_entry nq nm now one (NamesInOrder-drop_entry q m now t held.sound.names) in
-    let folder : kind_in (node_at t nq) ≡ Some kinds.Directory = folder_is (node_at t nq) can.rename.new_there can.rename.new_folder in
-    let links : Links (shape_of two) (shape_of three) nq nm y = shape-add_entry nq nm y now two (second.kind nq ∙ first.kind nq ∙ folder) in
-    let old : IsPlace q m p n → ⊥ = another t p x n node held q m can.rename.child_unlocked in
-    let new : IsPlace nq nm p n → ⊥ = another t p x n node held nq nm can.new_child_unlocked in
-    let ordered : InOrder three = InOrder-change_node _ nq two (InOrder-change_node _ nq one (InOrder-change_node _ q t held.sound.ordered)) in
-    drop now (entry_at t nq nm) p x n (change_node y (stamped now) three) (InOrder-change_node (stamped now) y three ordered) (not_empty t p x n node held nq nm can.empty)
-    (stamp now y p x n three (links.rest p n new ∙ second.rest p n new ∙ first.rest p n old ∙ held.names))
+  -- a directory that has entries is none that the checks found empty
+  not_empty : (q : ℕ) (m : List ℕ) → empty_check (child_at t q m) ≡ None → (y : ℕ) → entry_at t q m ≡ Some y → p ≢ y
+  not_empty q m empty y is same =
+      let bare : entry_in n (child_at t q m) ≡ None = empty_is (child_at t q m) empty n in
+      none_some (entry_at t p n) x (ap (λ k. entry_at t k n) same ∙ sym (ap (λ o. entry_in n (option_and_then (node_at t) o)) is) ∙ bare) held.names
 
--- ---- entries that go
+  -- ---- renames
 
-unlinked : (t : Tree) (p x : ℕ) (n : List ℕ) (node : Node) → Held t p x n node → (q : ℕ) (m : List ℕ) (now : ℕ) → CanUnlink t q m → entry_at (dropped now (entry_at t q m) (drop_entry q m now t)) p n ≡ Some x
-unlinked t p x n node held q m now can =
-    drop now (entry_at t q m) p x n (drop_entry q m now t) (InOrder-change_node _ q t held.sound.ordered)
-    (λ y is same.
-    no_folder_is 21 (child_at t q m) can.file (ap (λ o. kind_in (option_and_then (node_at t) o)) is ∙ ap (λ k. kind_in (node_at t k)) (sym same) ∙ folder_of t p x n node held))
-    ((shape-drop_entry q m now t held.sound.names).rest p n (another t p x n node held q m can.child_unlocked) ∙ held.names)
+  moved : (q : ℕ) (m : List ℕ) (nq : ℕ) (nm : List ℕ) (now : ℕ) → CanMove t q m nq nm → (found : Option ℕ) → entry_at (moved_entry q m nq nm now found t) p n ≡ Some x
+  moved q m nq nm now can None = held.names
+  moved q m nq nm now can (Some y) =
+      let one : Tree = drop_entry q m now t in
+      let two : Tree = drop_entry nq nm now one in
+      let three : Tree = add_entry nq nm y now two in
+      let first : Unlinks (shape_of t) (shape_of one) q m = shape-drop_entry q m now t held.sound.names in
+      let second : Unlinks (shape_of one) (shape_of two) nq nm = shape-drop_entry nq nm now one (NamesInOrder-drop_entry q m now t held.sound.names) in
+      let folder : kind_in (node_at t nq) ≡ Some kinds.Directory = folder_is (node_at t nq) can.rename.new_there can.rename.new_folder in
+      let links : Links (shape_of two) (shape_of three) nq nm y = shape-add_entry nq nm y now two (second.kind nq ∙ first.kind nq ∙ folder) in
+      let old : IsPlace q m p n → ⊥ = another q m can.rename.child_unlocked in
+      let new : IsPlace nq nm p n → ⊥ = another nq nm can.new_child_unlocked in
+      let ordered : InOrder three = InOrder-change_node _ nq two (InOrder-change_node _ nq one (InOrder-change_node _ q t held.sound.ordered)) in
+      drop now (entry_at t nq nm) p x n (change_node y (stamped now) three) (InOrder-change_node (stamped now) y three ordered) (not_empty nq nm can.empty)
+      (stamp now y p x n three (links.rest p n new ∙ second.rest p n new ∙ first.rest p n old ∙ held.names))
 
-unmade : (t : Tree) (p x : ℕ) (n : List ℕ) (node : Node) → Held t p x n node → (q : ℕ) (m : List ℕ) (now : ℕ) → CanUnmake t q m → (found : Option ℕ) → entry_at t q m ≡ found
-    → entry_at (without_node (unwrap_or found 0) (drop_entry q m now t)) p n ≡ Some x
-unmade t p x n node held q m now can None is = absurd (cc (ap entry_check (sym is) ∙ can.drop.entry))
-unmade t p x n node held q m now can (Some y) is =
-    (shape-without_node y (drop_entry q m now t) (InOrder-change_node _ q t held.sound.ordered)).entry p n (not_empty t p x n node held q m can.empty y is)
-    ∙ (shape-drop_entry q m now t held.sound.names).rest p n (another t p x n node held q m can.child_unlocked) ∙ held.names
+  -- ---- entries that go
 
-uprooted : (t : Tree) (p x : ℕ) (n : List ℕ) (node : Node) → Held t p x n node → (q : ℕ) (m : List ℕ) (now : ℕ) → (found : Option ℕ)
-    → ((top : ℕ) → found ≡ Some top → (is_at_or_below t top p ≡ false) × ((p ≡ q) × (n ≡ m) → ⊥)) → entry_at (without_tree q m now found t) p n ≡ Some x
-uprooted t p x n node held q m now None spares = held.names
-uprooted t p x n node held q m now (Some top) spares =
-    let out = spares top refl in
-    (shape-without_tree q m now top t held.sound.ordered held.sound.names held.sound.grown.rooted).rest p n out.0 out.1 ∙ held.names
+  unlinked : (q : ℕ) (m : List ℕ) (now : ℕ) → CanUnlink t q m → entry_at (dropped now (entry_at t q m) (drop_entry q m now t)) p n ≡ Some x
+  unlinked q m now can =
+      drop now (entry_at t q m) p x n (drop_entry q m now t) (InOrder-change_node _ q t held.sound.ordered)
+      (λ y is same.
+      no_folder_is 21 (child_at t q m) can.file (ap (λ o. kind_in (option_and_then (node_at t) o)) is ∙ ap (λ k. kind_in (node_at t k)) (sym same) ∙ folder_of))
+      ((shape-drop_entry q m now t held.sound.names).rest p n (another q m can.child_unlocked) ∙ held.names)
+
+  unmade : (q : ℕ) (m : List ℕ) (now : ℕ) → CanUnmake t q m → (found : Option ℕ) → entry_at t q m ≡ found → entry_at (without_node (unwrap_or found 0) (drop_entry q m now t)) p n ≡ Some x
+  unmade q m now can None is = absurd (cc (ap entry_check (sym is) ∙ can.drop.entry))
+  unmade q m now can (Some y) is =
+      (shape-without_node y (drop_entry q m now t) (InOrder-change_node _ q t held.sound.ordered)).entry p n (not_empty q m can.empty y is)
+      ∙ (shape-drop_entry q m now t held.sound.names).rest p n (another q m can.child_unlocked) ∙ held.names
+
+  uprooted : (q : ℕ) (m : List ℕ) (now : ℕ) → (found : Option ℕ) → ((top : ℕ) → found ≡ Some top → (is_at_or_below t top p ≡ false) × ((p ≡ q) × (n ≡ m) → ⊥)) → entry_at (without_tree q m now found t) p n ≡ Some x
+  uprooted q m now None spares = held.names
+  uprooted q m now (Some top) spares =
+      let out = spares top refl in
+      (shape-without_tree q m now top t held.sound.ordered held.sound.names held.sound.grown.rooted).rest p n out.0 out.1 ∙ held.names
 
 -- ---- a pass that leaves
 

@@ -35,46 +35,47 @@ record Locked (t : Tree) (x : ℕ) : Type 0 where
   pub is : node_at t x ≡ Some node
   pub locked : node.locked ≡ true
 
-itself : (t : Tree) (x y : ℕ) → Locked t x → y ≡ x → lock_check (node_at t y) ≡ None → ⊥
-itself t x y found same passes = locked_fails (node_at t y) found.node (ap (node_at t) same ∙ found.is) found.locked passes
+-- a locked node of the tree
+module _ (t : Tree) (pass x : ℕ) (found : Locked t x) where
+  itself : (y : ℕ) → y ≡ x → lock_check (node_at t y) ≡ None → ⊥
+  itself y same passes = locked_fails (node_at t y) found.node (ap (node_at t) same ∙ found.is) found.locked passes
 
-child : (t : Tree) (x p : ℕ) (n : List ℕ) → Locked t x → entry_at t p n ≡ Some x → lock_check (child_at t p n) ≡ None → ⊥
-child t x p n found names passes = locked_fails (child_at t p n) found.node (ap (option_and_then (node_at t)) names ∙ found.is) found.locked passes
+  child : (p : ℕ) (n : List ℕ) → entry_at t p n ≡ Some x → lock_check (child_at t p n) ≡ None → ⊥
+  child p n names passes = locked_fails (child_at t p n) found.node (ap (option_and_then (node_at t)) names ∙ found.is) found.locked passes
 
-replaced : (t : Tree) (pass x p : ℕ) (n : List ℕ) (np : ℕ) (nn : List ℕ) → Locked t x → first_failure (checks t pass (ops.Rename p n np nn)) ≡ None → entry_at t np nn ≡ Some x
-    → (test : Bool) → is_same (entry_at t np nn) (entry_at t p n) ≡ test → ⊥
-replaced t pass x p n np nn found passes names true same = child t x p n found (same_entry (entry_at t np nn) (entry_at t p n) x same names) (can_rename t pass p n np nn passes).child_unlocked
-replaced t pass x p n np nn found passes names false differs = child t x np nn found names (can_move t pass p n np nn passes differs).new_child_unlocked
+  replaced : (p : ℕ) (n : List ℕ) (np : ℕ) (nn : List ℕ) → first_failure (checks t pass (ops.Rename p n np nn)) ≡ None → entry_at t np nn ≡ Some x → (test : Bool) → is_same (entry_at t np nn) (entry_at t p n) ≡ test → ⊥
+  replaced p n np nn passes names true same = child p n (same_entry (entry_at t np nn) (entry_at t p n) x same names) (can_rename t pass p n np nn passes).child_unlocked
+  replaced p n np nn passes names false differs = child np nn names (can_move t pass p n np nn passes differs).new_child_unlocked
 
-renamed : (t : Tree) (pass x p : ℕ) (n : List ℕ) (np : ℕ) (nn : List ℕ) → Locked t x → first_failure (checks t pass (ops.Rename p n np nn)) ≡ None → WouldChange t pass x (ops.Rename p n np nn) → ⊥
-renamed t pass x p n np nn found passes (inl same) = itself t x p found same (can_rename t pass p n np nn passes).unlocked
-renamed t pass x p n np nn found passes (inr (inl same)) = itself t x np found same (can_rename t pass p n np nn passes).new_unlocked
-renamed t pass x p n np nn found passes (inr (inr (inl names))) = child t x p n found names (can_rename t pass p n np nn passes).child_unlocked
-renamed t pass x p n np nn found passes (inr (inr (inr names))) = replaced t pass x p n np nn found passes names (is_same (entry_at t np nn) (entry_at t p n)) refl
+  renamed : (p : ℕ) (n : List ℕ) (np : ℕ) (nn : List ℕ) → first_failure (checks t pass (ops.Rename p n np nn)) ≡ None → WouldChange t pass x (ops.Rename p n np nn) → ⊥
+  renamed p n np nn passes (inl same) = itself p same (can_rename t pass p n np nn passes).unlocked
+  renamed p n np nn passes (inr (inl same)) = itself np same (can_rename t pass p n np nn passes).new_unlocked
+  renamed p n np nn passes (inr (inr (inl names))) = child p n names (can_rename t pass p n np nn passes).child_unlocked
+  renamed p n np nn passes (inr (inr (inr names))) = replaced p n np nn passes names (is_same (entry_at t np nn) (entry_at t p n)) refl
 
--- where it would change, some check fails
-fails : (t : Tree) (pass x : ℕ) → Locked t x → (op : Op) → first_failure (checks t pass op) ≡ None → WouldChange t pass x op → ⊥
-fails t pass x found (ops.Chmod y mode) passes same = itself t x y found same (all_pass (checks t pass (ops.Chmod y mode)) passes).1.1.0
-fails t pass x found (ops.Chown y uid gid) passes same = itself t x y found same (all_pass (checks t pass (ops.Chown y uid gid)) passes).1.0
-fails t pass x found (ops.Utimes y mtime) passes same = itself t x y found same (all_pass (checks t pass (ops.Utimes y mtime)) passes).1.1.0
-fails t pass x found (ops.Truncate y size) passes same = itself t x y found same (all_pass (checks t pass (ops.Truncate y size)) passes).1.1.0
-fails t pass x found (ops.Write number offset bytes) passes opened =
-    itself t x (inode_of (handle_of t pass number)) found (ap inode_of opened.1 ∙ opened.2) (all_pass (checks t pass (ops.Write number offset bytes)) passes).1.0
-fails t pass x found (ops.Setxattr y name flag value) passes same = itself t x y found same (all_pass (checks t pass (ops.Setxattr y name flag value)) passes).1.1.1.0
-fails t pass x found (ops.Removexattr y name) passes same = itself t x y found same (all_pass (checks t pass (ops.Removexattr y name)) passes).1.1.0
-fails t pass x found (ops.Mkdir p n mode uid gid) passes same = itself t x p found same (can_mkdir t pass p n mode uid gid passes).1.unlocked
-fails t pass x found (ops.Create p n mode uid gid) passes same = itself t x p found same (can_create t pass p n mode uid gid passes).1.unlocked
-fails t pass x found (ops.Symlink p n target uid gid) passes same = itself t x p found same (can_symlink t pass p n target uid gid passes).1.unlocked
-fails t pass x found (ops.CopyTree source p n) passes same = itself t x p found same (can_copy t pass source p n passes).unlocked
-fails t pass x found (ops.RemoveTree p n) passes same = itself t x p found same (can_uproot t pass p n passes).drop.unlocked
-fails t pass x found (ops.Link y p n) passes (inl same) = itself t x y found same (can_link t pass y p n passes).unlocked
-fails t pass x found (ops.Link y p n) passes (inr same) = itself t x p found same (can_link t pass y p n passes).parent_unlocked
-fails t pass x found (ops.Unlink p n) passes (inl same) = itself t x p found same (can_unlink t pass p n passes).drop.unlocked
-fails t pass x found (ops.Unlink p n) passes (inr names) = child t x p n found names (can_unlink t pass p n passes).child_unlocked
-fails t pass x found (ops.Rmdir p n) passes (inl same) = itself t x p found same (can_unmake t pass p n passes).drop.unlocked
-fails t pass x found (ops.Rmdir p n) passes (inr names) = child t x p n found names (can_unmake t pass p n passes).child_unlocked
-fails t pass x found (ops.Rename p n np nn) passes would = renamed t pass x p n np nn found passes would
-fails t pass x found op passes none = none
+  -- where it would change, some check fails
+  fails : (op : Op) → first_failure (checks t pass op) ≡ None → WouldChange t pass x op → ⊥
+  fails (ops.Chmod y mode) passes same = itself y same (all_pass (checks t pass (ops.Chmod y mode)) passes).1.1.0
+  fails (ops.Chown y uid gid) passes same = itself y same (all_pass (checks t pass (ops.Chown y uid gid)) passes).1.0
+  fails (ops.Utimes y mtime) passes same = itself y same (all_pass (checks t pass (ops.Utimes y mtime)) passes).1.1.0
+  fails (ops.Truncate y size) passes same = itself y same (all_pass (checks t pass (ops.Truncate y size)) passes).1.1.0
+  fails (ops.Write number offset bytes) passes opened =
+      itself (inode_of (handle_of t pass number)) (ap inode_of opened.1 ∙ opened.2) (all_pass (checks t pass (ops.Write number offset bytes)) passes).1.0
+  fails (ops.Setxattr y name flag value) passes same = itself y same (all_pass (checks t pass (ops.Setxattr y name flag value)) passes).1.1.1.0
+  fails (ops.Removexattr y name) passes same = itself y same (all_pass (checks t pass (ops.Removexattr y name)) passes).1.1.0
+  fails (ops.Mkdir p n mode uid gid) passes same = itself p same (can_mkdir t pass p n mode uid gid passes).1.unlocked
+  fails (ops.Create p n mode uid gid) passes same = itself p same (can_create t pass p n mode uid gid passes).1.unlocked
+  fails (ops.Symlink p n target uid gid) passes same = itself p same (can_symlink t pass p n target uid gid passes).1.unlocked
+  fails (ops.CopyTree source p n) passes same = itself p same (can_copy t pass source p n passes).unlocked
+  fails (ops.RemoveTree p n) passes same = itself p same (can_uproot t pass p n passes).drop.unlocked
+  fails (ops.Link y p n) passes (inl same) = itself y same (can_link t pass y p n passes).unlocked
+  fails (ops.Link y p n) passes (inr same) = itself p same (can_link t pass y p n passes).parent_unlocked
+  fails (ops.Unlink p n) passes (inl same) = itself p same (can_unlink t pass p n passes).drop.unlocked
+  fails (ops.Unlink p n) passes (inr names) = child p n names (can_unlink t pass p n passes).child_unlocked
+  fails (ops.Rmdir p n) passes (inl same) = itself p same (can_unmake t pass p n passes).drop.unlocked
+  fails (ops.Rmdir p n) passes (inr names) = child p n names (can_unmake t pass p n passes).child_unlocked
+  fails (ops.Rename p n np nn) passes would = renamed p n np nn passes would
+  fails op passes none = none
 
 refused_if : (t : Tree) (pass now x : ℕ) (op : Op) → Locked t x → WouldChange t pass x op → (failure : Option ℕ) → first_failure (checks t pass op) ≡ failure
     → (errno : Errno) × (reply_to t pass op now ≡ replies.Errno errno)

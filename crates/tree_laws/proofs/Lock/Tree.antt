@@ -58,108 +58,105 @@ record Kept (t : Tree) (top q : ℕ) (m : List ℕ) (later : Tree) : Type 0 wher
   pub nodes : (x : ℕ) (node : Node) → is_at_or_below t top x ≡ true → node_at t x ≡ Some node → (time : ℕ) × (node_at later x ≡ Some (stamped time (record node { locked = true })))
   pub name : entry_at later q m ≡ Some top
 
-entry_later : (t : Tree) (top q : ℕ) (m : List ℕ) (later : Tree) → Kept t top q m later → (p x : ℕ) (n : List ℕ) → is_at_or_below t top p ≡ true → entry_at t p n ≡ Some x → entry_at later p n ≡ Some x
-entry_later t top q m later keeps p x n within names =
-    let node = entry_some n x (node_at t p) names in
-    let kept = keeps.nodes p node.0 within node.1 in
-    ap (entry_in n) kept.1 ∙ node.2
-
--- a removal in a locked directory is refused
-refused_there : (t : Tree) (top q : ℕ) (m : List ℕ) (later : Tree) → Kept t top q m later → (pass from : ℕ) (by : List ℕ) → first_failure (checks later pass (ops.RemoveTree from by)) ≡ None → (p x : ℕ) (n : List ℕ)
-    → is_at_or_below t top p ≡ true → entry_at t p n ≡ Some x → from ≡ p → ⊥
-refused_there t top q m later keeps pass from by passes p x n within names same =
-    let node = entry_some n x (node_at t p) names in
-    let kept = keeps.nodes p node.0 within node.1 in
-    locked_fails (node_at later from) (stamped kept.0 (record node.0 { locked = true })) (ap (node_at later) same ∙ kept.1) refl (can_uproot later pass from by passes).drop.unlocked
-
--- no directory inside is at or below one that is removed
-apart_from : (t : Tree) (top q : ℕ) (m : List ℕ) (later : Tree) → Sound t → Kept t top q m later → (pass from : ℕ) (by : List ℕ) → first_failure (checks later pass (ops.RemoveTree from by)) ≡ None → (r : ℕ)
-    → entry_at later from by ≡ Some r → is_at_or_below later r top ≡ false → (steps p : ℕ) → Leads (entry_at later) steps p → kind_in (node_at later p) ≡ Some kinds.Directory
-    → is_at_or_below t top p ≡ true → is_at_or_below later r p ≡ true → ⊥
-apart_from t top q m later sound keeps pass from by passes r is out zero p leads folder within removed =
-    elim (cases_eq p top) [
-      | inl same ↦ both_ways (is_at_or_below later r top) out (ap (is_at_or_below later r) (sym same) ∙ removed)
-      | inr apart ↦ elim ((below_shape t sound.names top).up p within) [
-        | inl same ↦ apart same
-        | inr above ↦ sound.grown.top above.0 above.1 (above.3 ∙ ap Some leads)
-      ]
-    ]
-apart_from t top q m later sound keeps pass from by passes r is out (suc steps) p leads folder within removed =
-    elim (cases_eq p top) [
-      | inl same ↦ both_ways (is_at_or_below later r top) out (ap (is_at_or_below later r) (sym same) ∙ removed)
-      | inr apart ↦ elim ((below_shape t sound.names top).up p within) [
-        | inl same ↦ apart same
-        | inr above ↦
-            let named : entry_at later above.0 above.1 ≡ Some p = entry_later t top q m later keeps above.0 p above.1 above.2 above.3 in
-            elim (cases_eq p r) [
-              | inl same ↦
-                  refused_there t top q m later keeps pass from by passes above.0 p above.1 above.2 above.3
-                  (keeps.sound.grown.once above.0 from p above.1 by folder named (is ∙ ap Some (sym same))).0
-              | inr differs ↦
-                  apart_from t top q m later sound keeps pass from by passes r is out steps leads.0 leads.3 (keeps.sound.grown.holds leads.0 p leads.1 leads.2)
-                  (ap (is_at_or_below t top) (keeps.sound.grown.once above.0 leads.0 p above.1 leads.1 folder named leads.2).0 ∙ above.2)
-                  (inside_above NoneGoes (shape_of later) r (is_among (at_and_below later r)) (below_shape later keeps.sound.names r) keeps.sound.grown leads.0 p leads.1 differs folder removed leads.2)
-            ]
-      ]
-    ]
-
-spares_inside : (t : Tree) (top q : ℕ) (m : List ℕ) (later : Tree) → Sound t → Kept t top q m later → (pass : ℕ) (op : Op) → SparesTree later top op replies.Done → (p x : ℕ) (n : List ℕ) → is_at_or_below t top p ≡ true
-    → entry_at t p n ≡ Some x → first_failure (checks later pass op) ≡ None → Spares later p n op replies.Done
-spares_inside t top q m later sound keeps pass (ops.RemoveTree from by) spares p x n within names passes =
-    let folder : kind_in (node_at later p) ≡ Some kinds.Directory = keeps.sound.grown.holds p x n (entry_later t top q m later keeps p x n within names) in
-    let way = keeps.sound.grown.leads p (λ no. no) folder in
-    λ r done is. (
-      false_from_ne_true (is_at_or_below later r p) (λ removed. apart_from t top q m later sound keeps pass from by passes r is (spares r refl is) way.0 p way.1 folder within removed),
-      λ place. refused_there t top q m later keeps pass from by passes p x n within names (sym place.0),
-    )
-spares_inside t top q m later sound keeps pass op spares p x n within names passes = _
-
-spares_first : (t : Tree) (top q : ℕ) (m : List ℕ) (later : Tree) → Kept t top q m later → (op : Op) → SparesTree later top op replies.Done → Spares later q m op replies.Done
-spares_first t top q m later keeps (ops.RemoveTree from by) spares = λ r done is. (
-  false_from_ne_true (is_at_or_below later r q) (λ removed. both_ways (is_at_or_below later r top) (spares r refl is) ((below_shape later keeps.sound.names r).down q top m removed keeps.name)),
-  λ place.
-      both_ways (is_at_or_below later r top) (spares r refl is)
-      (ap (is_at_or_below later r) (one_entry (entry_at later) from by q m r top place is keeps.name) ∙ (below_shape later keeps.sound.names r).itself),
-)
-spares_first t top q m later keeps op spares = _
-
 tree_done : (t : Tree) (pass now : ℕ) (op : Op) (x : ℕ) → SparesTree t x op (reply_to t pass op now) → first_failure (checks t pass op) ≡ None → SparesTree t x op replies.Done
 tree_done t pass now (ops.RemoveTree q m) x spares passes = λ top done is. spares top (reply_at t pass now (ops.RemoveTree q m) None passes) is
 tree_done t pass now op x spares passes = _
 
-kept_on : (t : Tree) (top q : ℕ) (m : List ℕ) (later : Tree) → Sound t → kind_in (node_at t top) ≡ Some kinds.Directory → Kept t top q m later → (pass now : ℕ) (op : Op) → SparesTree later top op (reply_to later pass op now)
-    → Kept t top q m (tree_after later pass op now)
-kept_on t top q m later sound folder keeps pass now op spares =
-    let next : Tree = tree_after later pass op now in
-    let first : (x : ℕ) (node : Node) → is_at_or_below t top x ≡ true → node_at t x ≡ Some node → x ≡ top → IsAsBefore q m x (record node { locked = true }) next =
-    λ x node within is same.
-    let old = keeps.nodes x node within is in
-    let one = one_stays later pass now op q x m (stamped old.0 (record node { locked = true })) (record { sound = keeps.sound; is = old.1; locked = refl; names = keeps.name ∙ ap Some (sym same) })
-    (λ passes. spares_first t top q m later keeps op (tree_done later pass now op top spares passes)) in
-    record { names = one.names; time = one.time; is = one.is } in
-    let top_node = kind_some (node_at t top) kinds.Directory folder in
-    record {
-      sound = Sound-tree_after later pass now op keeps.sound;
-      nodes = λ x node within is.
-          elim ((below_shape t sound.names top).up x within) [
-            | inl same ↦
-                let one = first x node within is same in
-                (one.time, one.is)
-            | inr from ↦
-                let old = keeps.nodes x node within is in
-                let one = one_stays later pass now op from.0 x from.1 (stamped old.0 (record node { locked = true }))
-                (record { sound = keeps.sound; is = old.1; locked = refl; names = entry_later t top q m later keeps from.0 x from.1 from.2 from.3 })
-                (λ passes. spares_inside t top q m later sound keeps pass op (tree_done later pass now op top spares passes) from.0 x from.1 from.2 from.3 passes) in
-                (one.time, one.is)
-          ];
-      name = (first top top_node.0 (below_shape t sound.names top).itself top_node.1 refl).names;
-    }
+-- a later tree in which all at and below the directory is locked and as it was
+module _ (t : Tree) (top q : ℕ) (m : List ℕ) (later : Tree) (sound : Sound t) (keeps : Kept t top q m later) where
+  entry_later : (p x : ℕ) (n : List ℕ) → is_at_or_below t top p ≡ true → entry_at t p n ≡ Some x → entry_at later p n ≡ Some x
+  entry_later p x n within names =
+      let node = entry_some n x (node_at t p) names in
+      let kept = keeps.nodes p node.0 within node.1 in
+      ap (entry_in n) kept.1 ∙ node.2
+
+  -- a removal in a locked directory is refused
+  refused_there : (pass from : ℕ) (by : List ℕ) → first_failure (checks later pass (ops.RemoveTree from by)) ≡ None → (p x : ℕ) (n : List ℕ) → is_at_or_below t top p ≡ true → entry_at t p n ≡ Some x → from ≡ p → ⊥
+  refused_there pass from by passes p x n within names same =
+      let node = entry_some n x (node_at t p) names in
+      let kept = keeps.nodes p node.0 within node.1 in
+      locked_fails (node_at later from) (stamped kept.0 (record node.0 { locked = true })) (ap (node_at later) same ∙ kept.1) refl (can_uproot later pass from by passes).drop.unlocked
+
+  -- no directory inside is at or below one that is removed
+  apart_from : (pass from : ℕ) (by : List ℕ) → first_failure (checks later pass (ops.RemoveTree from by)) ≡ None → (r : ℕ) → entry_at later from by ≡ Some r → is_at_or_below later r top ≡ false → (steps p : ℕ) → Leads (entry_at later) steps p → kind_in (node_at later p) ≡ Some kinds.Directory → is_at_or_below t top p ≡ true → is_at_or_below later r p ≡ true → ⊥
+  apart_from pass from by passes r is out zero p leads folder within removed =
+      elim (cases_eq p top) [
+        | inl same ↦ both_ways (is_at_or_below later r top) out (ap (is_at_or_below later r) (sym same) ∙ removed)
+        | inr apart ↦ elim ((below_shape t sound.names top).up p within) [
+          | inl same ↦ apart same
+          | inr above ↦ sound.grown.top above.0 above.1 (above.3 ∙ ap Some leads)
+        ]
+      ]
+  apart_from pass from by passes r is out (suc steps) p leads folder within removed =
+      elim (cases_eq p top) [
+        | inl same ↦ both_ways (is_at_or_below later r top) out (ap (is_at_or_below later r) (sym same) ∙ removed)
+        | inr apart ↦ elim ((below_shape t sound.names top).up p within) [
+          | inl same ↦ apart same
+          | inr above ↦
+              let named : entry_at later above.0 above.1 ≡ Some p = entry_later above.0 p above.1 above.2 above.3 in
+              elim (cases_eq p r) [
+                | inl same ↦
+                    refused_there pass from by passes above.0 p above.1 above.2 above.3
+                    (keeps.sound.grown.once above.0 from p above.1 by folder named (is ∙ ap Some (sym same))).0
+                | inr differs ↦
+                    apart_from pass from by passes r is out steps leads.0 leads.3 (keeps.sound.grown.holds leads.0 p leads.1 leads.2)
+                    (ap (is_at_or_below t top) (keeps.sound.grown.once above.0 leads.0 p above.1 leads.1 folder named leads.2).0 ∙ above.2)
+                    (inside_above NoneGoes (shape_of later) r (is_among (at_and_below later r)) (below_shape later keeps.sound.names r) keeps.sound.grown leads.0 p leads.1 differs folder removed leads.2)
+              ]
+        ]
+      ]
+
+  spares_inside : (pass : ℕ) (op : Op) → SparesTree later top op replies.Done → (p x : ℕ) (n : List ℕ) → is_at_or_below t top p ≡ true → entry_at t p n ≡ Some x → first_failure (checks later pass op) ≡ None → Spares later p n op replies.Done
+  spares_inside pass (ops.RemoveTree from by) spares p x n within names passes =
+      let folder : kind_in (node_at later p) ≡ Some kinds.Directory = keeps.sound.grown.holds p x n (entry_later p x n within names) in
+      let way = keeps.sound.grown.leads p (λ no. no) folder in
+      λ r done is. (
+        false_from_ne_true (is_at_or_below later r p) (λ removed. apart_from pass from by passes r is (spares r refl is) way.0 p way.1 folder within removed),
+        λ place. refused_there pass from by passes p x n within names (sym place.0),
+      )
+  spares_inside pass op spares p x n within names passes = _
+
+  spares_first : (op : Op) → SparesTree later top op replies.Done → Spares later q m op replies.Done
+  spares_first (ops.RemoveTree from by) spares = λ r done is. (
+    false_from_ne_true (is_at_or_below later r q) (λ removed. both_ways (is_at_or_below later r top) (spares r refl is) ((below_shape later keeps.sound.names r).down q top m removed keeps.name)),
+    λ place.
+        both_ways (is_at_or_below later r top) (spares r refl is)
+        (ap (is_at_or_below later r) (one_entry (entry_at later) from by q m r top place is keeps.name) ∙ (below_shape later keeps.sound.names r).itself),
+  )
+  spares_first op spares = _
+
+  kept_on : kind_in (node_at t top) ≡ Some kinds.Directory → (pass now : ℕ) (op : Op) → SparesTree later top op (reply_to later pass op now) → Kept t top q m (tree_after later pass op now)
+  kept_on folder pass now op spares =
+      let next : Tree = tree_after later pass op now in
+      let first : (x : ℕ) (node : Node) → is_at_or_below t top x ≡ true → node_at t x ≡ Some node → x ≡ top → IsAsBefore q m x (record node { locked = true }) next =
+      λ x node within is same.
+      let old = keeps.nodes x node within is in
+      let one = one_stays later pass now op q x m (stamped old.0 (record node { locked = true })) (record { sound = keeps.sound; is = old.1; locked = refl; names = keeps.name ∙ ap Some (sym same) })
+      (λ passes. spares_first op (tree_done later pass now op top spares passes)) in
+      record { names = one.names; time = one.time; is = one.is } in
+      let top_node = kind_some (node_at t top) kinds.Directory folder in
+      record {
+        sound = Sound-tree_after later pass now op keeps.sound;
+        nodes = λ x node within is.
+            elim ((below_shape t sound.names top).up x within) [
+              | inl same ↦
+                  let one = first x node within is same in
+                  (one.time, one.is)
+              | inr from ↦
+                  let old = keeps.nodes x node within is in
+                  let one = one_stays later pass now op from.0 x from.1 (stamped old.0 (record node { locked = true }))
+                  (record { sound = keeps.sound; is = old.1; locked = refl; names = entry_later from.0 x from.1 from.2 from.3 })
+                  (λ passes. spares_inside pass op (tree_done later pass now op top spares passes) from.0 x from.1 from.2 from.3 passes) in
+                  (one.time, one.is)
+            ];
+        name = (first top top_node.0 (below_shape t sound.names top).itself top_node.1 refl).names;
+      }
 
 kept_all : (t : Tree) (top q : ℕ) (m : List ℕ) (later : Tree) (calls : List Request) → Sound t → kind_in (node_at t top) ≡ Some kinds.Directory → Kept t top q m later → AllSpareTree later top calls
     → Kept t top q m (tree_after_all later calls)
 kept_all t top q m later [] sound folder keeps spare = keeps
 kept_all t top q m later (call ∷ calls) sound folder keeps spare =
-    kept_all t top q m (tree_after later call.pass call.op call.now) calls sound folder (kept_on t top q m later sound folder keeps call.pass call.now call.op spare.0) spare.1
+    kept_all t top q m (tree_after later call.pass call.op call.now) calls sound folder (kept_on t top q m later sound keeps folder call.pass call.now call.op spare.0) spare.1
 
 same_entries : (n : List ℕ) (found after : Option Node) (node : Node) (time : ℕ) → found ≡ Some node → after ≡ Some (stamped time (record node { locked = true })) → entry_in n after ≡ entry_in n found
 same_entries n found after node time was is = ap (entry_in n) is ∙ sym (ap (entry_in n) was)

@@ -96,33 +96,33 @@ each-left : (good : Node → Type 0) (keep : ℕ × Node → Option (ℕ × Node
 each-left good keep keeps [] each = each
 each-left good keep keeps (e ∷ es) each = each-option good (keep e) (filter_map keep es) (λ x is. keeps e x each.0 is) (each-left good keep keeps es each.1)
 
-left_sound : (good : Node → Type 0) (now : ℕ) → Keeps now good → (among stays : Bool) (e x : ℕ × Node) → good e.1 → cond among (cond stays (Some (e.0, stamped now e.1)) None) (Some e) ≡ Some x → good x.1
-left_sound good now keeps true true e x sound is =
-    let same : (e.0, stamped now e.1) ≡ x = cc is in
-    subst (λ (p : ℕ × Node). good p.1) same (keeps.edits Stamp _ e.1 sound)
-left_sound good now keeps true false e x sound is = absurd (cc is)
-left_sound good now keeps false stays e x sound is =
-    let same : e ≡ x = cc is in
-    subst (λ (p : ℕ × Node). good p.1) same sound
+-- a fact that all that is written keeps
+module _ (good : Node → Type 0) (now : ℕ) (keeps : Keeps now good) where
+  left_sound : (among stays : Bool) (e x : ℕ × Node) → good e.1 → cond among (cond stays (Some (e.0, stamped now e.1)) None) (Some e) ≡ Some x → good x.1
+  left_sound true true e x sound is =
+      let same : (e.0, stamped now e.1) ≡ x = cc is in
+      subst (λ (p : ℕ × Node). good p.1) same (keeps.edits Stamp _ e.1 sound)
+  left_sound true false e x sound is = absurd (cc is)
+  left_sound false stays e x sound is =
+      let same : e ≡ x = cc is in
+      subst (λ (p : ℕ × Node). good p.1) same sound
 
-lock_sound : (good : Node → Type 0) (now : ℕ) → Keeps now good → (among : Bool) (e : ℕ × Node) → good e.1 → good (cond among (e.0, record e.1 { locked = true }) e).1
-lock_sound good now keeps true e sound = keeps.locks e.1 sound
-lock_sound good now keeps false e sound = sound
+  lock_sound : (among : Bool) (e : ℕ × Node) → good e.1 → good (cond among (e.0, record e.1 { locked = true }) e).1
+  lock_sound true e sound = keeps.locks e.1 sound
+  lock_sound false e sound = sound
 
-each-lock : (good : Node → Type 0) (now : ℕ) → Keeps now good → (below : List ℕ) (es : List (ℕ × Node)) → Each good es → Each good (map (λ e. cond (is_among below e.0) (e.0, record e.1 { locked = true }) e) es)
-each-lock good now keeps below [] each = each
-each-lock good now keeps below (e ∷ es) each = (lock_sound good now keeps (is_among below e.0) e each.0, each-lock good now keeps below es each.1)
+  each-lock : (below : List ℕ) (es : List (ℕ × Node)) → Each good es → Each good (map (λ e. cond (is_among below e.0) (e.0, record e.1 { locked = true }) e) es)
+  each-lock below [] each = each
+  each-lock below (e ∷ es) each = (lock_sound (is_among below e.0) e each.0, each-lock below es each.1)
 
-copy_if : (good : Node → Type 0) (now : ℕ) → Keeps now good → (t : Tree) (order : List ℕ) (inode : ℕ) (inodes : List ℕ) (x : Option Node) → ((node : Node) → x ≡ Some node → good node)
-    → Each good (copies t order now inodes)
-    → Each good (elim x as (λ _. List (ℕ × Node)) [ Some node ↦ (copy_number t.next_inode order inode, copied_node t.next_inode order now node) ∷ copies t order now inodes | None ↦ copies t order now inodes ])
-copy_if good now keeps t order inode inodes None sound rest = rest
-copy_if good now keeps t order inode inodes (Some node) sound rest = (keeps.copies t.next_inode order node (sound node refl), rest)
+  copy_if : (t : Tree) (order : List ℕ) (inode : ℕ) (inodes : List ℕ) (x : Option Node) → ((node : Node) → x ≡ Some node → good node) → Each good (copies t order now inodes) → Each good (elim x as (λ _. List (ℕ × Node)) [ Some node ↦ (copy_number t.next_inode order inode, copied_node t.next_inode order now node) ∷ copies t order now inodes | None ↦ copies t order now inodes ])
+  copy_if t order inode inodes None sound rest = rest
+  copy_if t order inode inodes (Some node) sound rest = (keeps.copies t.next_inode order node (sound node refl), rest)
 
-each-copies : (good : Node → Type 0) (now : ℕ) → Keeps now good → (t : Tree) (order : List ℕ) (inodes : List ℕ) → Each good t.nodes → Each good (copies t order now inodes)
-each-copies good now keeps t order [] each = _
-each-copies good now keeps t order (inode ∷ inodes) each =
-    copy_if good now keeps t order inode inodes (node_at t inode) (λ node is. each-found good (is_at (nat_cmp inode)) t.nodes node each is) (each-copies good now keeps t order inodes each)
+  each-copies : (t : Tree) (order : List ℕ) (inodes : List ℕ) → Each good t.nodes → Each good (copies t order now inodes)
+  each-copies t order [] each = _
+  each-copies t order (inode ∷ inodes) each =
+      copy_if t order inode inodes (node_at t inode) (λ node is. each-found good (is_at (nat_cmp inode)) t.nodes node each is) (each-copies t order inodes each)
 
 -- ---- changes of a tree
 
@@ -168,43 +168,44 @@ pub record KeepsEntries (good : List (List ℕ × ℕ) → Type 0) : Type 0 wher
   pub removes : (name : List ℕ) (es : List (List ℕ × ℕ)) → good es → good (remove_entry (is_at (slice_cmp nat_cmp name)) es)
   pub renumbers : (f : ℕ → ℕ) (es : List (List ℕ × ℕ)) → good es → good (map (λ e. (e.0, f e.1)) es)
 
-entries-named : (good : List (List ℕ × ℕ) → Type 0) → KeepsEntries good → (name : List ℕ) (inode : ℕ) (content : Content) → name_check name ≡ None → good (entries_of content)
-    → good (entries_of (named name inode content))
-entries-named good keeps name inode (Directory entries) legal holds = keeps.inserts name inode entries legal holds
-entries-named good keeps name inode (Regular bytes) legal holds = holds
-entries-named good keeps name inode (Link target) legal holds = holds
-
-entries-unnamed : (good : List (List ℕ × ℕ) → Type 0) → KeepsEntries good → (name : List ℕ) (content : Content) → good (entries_of content) → good (entries_of (unnamed name content))
-entries-unnamed good keeps name (Directory entries) holds = keeps.removes name entries holds
-entries-unnamed good keeps name (Regular bytes) holds = holds
-entries-unnamed good keeps name (Link target) holds = holds
-
 entries-bytes : (good : List (List ℕ × ℕ) → Type 0) (f : List ℕ → List ℕ) (content : Content) → good (entries_of content) → good (entries_of (with_bytes f content))
 entries-bytes good f (Regular bytes) holds = holds
 entries-bytes good f (Directory entries) holds = holds
 entries-bytes good f (Link target) holds = holds
 
-entries-copied : (good : List (List ℕ × ℕ) → Type 0) → KeepsEntries good → (next : ℕ) (order : List ℕ) (content : Content) → good (entries_of content) → good (entries_of (copied_content next order content))
-entries-copied good keeps next order (Directory entries) holds = keeps.renumbers (copy_number next order) entries holds
-entries-copied good keeps next order (Regular bytes) holds = holds
-entries-copied good keeps next order (Link target) holds = holds
+-- a fact of entries that all that is written keeps
+module _ (good : List (List ℕ × ℕ) → Type 0) (keeps : KeepsEntries good) where
+  entries-named : (name : List ℕ) (inode : ℕ) (content : Content) → name_check name ≡ None → good (entries_of content) → good (entries_of (named name inode content))
+  entries-named name inode (Directory entries) legal holds = keeps.inserts name inode entries legal holds
+  entries-named name inode (Regular bytes) legal holds = holds
+  entries-named name inode (Link target) legal holds = holds
 
-pub entries-edited : (good : List (List ℕ × ℕ) → Type 0) → KeepsEntries good → (now : ℕ) (e : Edit) → Fits e → Changes (λ node. good (entries_of node.content)) (edited now e)
-entries-edited good keeps now (Resize size) fits node holds = entries-bytes good (resized size) node.content holds
-entries-edited good keeps now (Write offset bytes) fits node holds = entries-bytes good (written_at offset bytes) node.content holds
-entries-edited good keeps now (Entry name inode) fits node holds = entries-named good keeps name inode node.content fits holds
-entries-edited good keeps now (NoEntry name) fits node holds = entries-unnamed good keeps name node.content holds
-entries-edited good keeps now e fits node holds = holds
+  entries-unnamed : (name : List ℕ) (content : Content) → good (entries_of content) → good (entries_of (unnamed name content))
+  entries-unnamed name (Directory entries) holds = keeps.removes name entries holds
+  entries-unnamed name (Regular bytes) holds = holds
+  entries-unnamed name (Link target) holds = holds
 
-entries-built : (good : List (List ℕ × ℕ) → Type 0) → KeepsEntries good → (now : ℕ) (new : NewNode) → good (entries_of (built now new).content)
-entries-built good keeps now (File mode uid gid) = keeps.none
-entries-built good keeps now (Folder mode uid gid) = keeps.none
-entries-built good keeps now (Symlink target uid gid) = keeps.none
+  entries-copied : (next : ℕ) (order : List ℕ) (content : Content) → good (entries_of content) → good (entries_of (copied_content next order content))
+  entries-copied next order (Directory entries) holds = keeps.renumbers (copy_number next order) entries holds
+  entries-copied next order (Regular bytes) holds = holds
+  entries-copied next order (Link target) holds = holds
 
-pub keeps_by_entries : (good : List (List ℕ × ℕ) → Type 0) → KeepsEntries good → (now : ℕ) → Keeps now (λ node. good (entries_of node.content))
-keeps_by_entries good keeps now = record {
-  edits = entries-edited good keeps now;
-  makes = λ new begins. entries-built good keeps now new;
-  locks = λ node holds. holds;
-  copies = λ next order node holds. entries-copied good keeps next order node.content holds;
-}
+  pub entries-edited : (now : ℕ) (e : Edit) → Fits e → Changes (λ node. good (entries_of node.content)) (edited now e)
+  entries-edited now (Resize size) fits node holds = entries-bytes good (resized size) node.content holds
+  entries-edited now (Write offset bytes) fits node holds = entries-bytes good (written_at offset bytes) node.content holds
+  entries-edited now (Entry name inode) fits node holds = entries-named name inode node.content fits holds
+  entries-edited now (NoEntry name) fits node holds = entries-unnamed name node.content holds
+  entries-edited now e fits node holds = holds
+
+  entries-built : (now : ℕ) (new : NewNode) → good (entries_of (built now new).content)
+  entries-built now (File mode uid gid) = keeps.none
+  entries-built now (Folder mode uid gid) = keeps.none
+  entries-built now (Symlink target uid gid) = keeps.none
+
+  pub keeps_by_entries : (now : ℕ) → Keeps now (λ node. good (entries_of node.content))
+  keeps_by_entries now = record {
+    edits = entries-edited now;
+    makes = λ new begins. entries-built now new;
+    locks = λ node holds. holds;
+    copies = λ next order node holds. entries-copied next order node.content holds;
+  }

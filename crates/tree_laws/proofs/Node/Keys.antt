@@ -75,44 +75,40 @@ names_tell = record { own = own_name; same = same_name; other = other_name }
 
 -- ---- look-ups among entries of which one is inserted, or goes
 
-here_if : {K X : Type 0} (compare : K → K → Ordering) → Tells compare → (k : K) (v : X) (e : K × X) (es inserted : List (K × X)) (order : Ordering) → compare k e.0 ≡ order
-    → lookup (is_at (compare k)) inserted ≡ Some v → lookup (is_at (compare k)) (match_ordering order ((k, v) ∷ e ∷ es) ((e.0, v) ∷ es) (e ∷ inserted)) ≡ Some v
-here_if compare tells k v e es inserted Less is rest = ap (λ b. cond b (Some v) (lookup (is_at (compare k)) (e ∷ es))) (tells.own k)
-here_if compare tells k v e es inserted Equal is rest = ap (λ b. cond b (Some v) (lookup (is_at (compare k)) es)) (ap is_eq is)
-here_if compare tells k v e es inserted Greater is rest = ap (λ b. cond b (Some e.1) (lookup (is_at (compare k)) inserted)) (ap is_eq is) ∙ rest
+-- keys that a comparison tells apart
+module _ {K X : Type 0} (compare : K → K → Ordering) (tells : Tells compare) where
+  here_if : (k : K) (v : X) (e : K × X) (es inserted : List (K × X)) (order : Ordering) → compare k e.0 ≡ order → lookup (is_at (compare k)) inserted ≡ Some v → lookup (is_at (compare k)) (match_ordering order ((k, v) ∷ e ∷ es) ((e.0, v) ∷ es) (e ∷ inserted)) ≡ Some v
+  here_if k v e es inserted Less is rest = ap (λ b. cond b (Some v) (lookup (is_at (compare k)) (e ∷ es))) (tells.own k)
+  here_if k v e es inserted Equal is rest = ap (λ b. cond b (Some v) (lookup (is_at (compare k)) es)) (ap is_eq is)
+  here_if k v e es inserted Greater is rest = ap (λ b. cond b (Some e.1) (lookup (is_at (compare k)) inserted)) (ap is_eq is) ∙ rest
 
--- a look-up finds what was inserted
-pub lookup-insert_entry_same : {K X : Type 0} (compare : K → K → Ordering) → Tells compare → (k : K) (v : X) (es : List (K × X)) → lookup (is_at (compare k)) (insert_entry compare es k v) ≡ Some v
-lookup-insert_entry_same compare tells k v [] = ap (λ b. cond b (Some v) None) (tells.own k)
-lookup-insert_entry_same compare tells k v (e ∷ es) = here_if compare tells k v e es (insert_entry compare es k v) (compare k e.0) refl (lookup-insert_entry_same compare tells k v es)
+  -- a look-up finds what was inserted
+  pub lookup-insert_entry_same : (k : K) (v : X) (es : List (K × X)) → lookup (is_at (compare k)) (insert_entry compare es k v) ≡ Some v
+  lookup-insert_entry_same k v [] = ap (λ b. cond b (Some v) None) (tells.own k)
+  lookup-insert_entry_same k v (e ∷ es) = here_if k v e es (insert_entry compare es k v) (compare k e.0) refl (lookup-insert_entry_same k v es)
 
-kept_if : {K X : Type 0} (compare : K → K → Ordering) → Tells compare → (k m : K) (v : X) (e : K × X) (es inserted : List (K × X)) (order : Ordering) → m ≢ k → compare k e.0 ≡ order
-    → lookup (is_at (compare m)) inserted ≡ lookup (is_at (compare m)) es
-    → lookup (is_at (compare m)) (match_ordering order ((k, v) ∷ e ∷ es) ((e.0, v) ∷ es) (e ∷ inserted)) ≡ lookup (is_at (compare m)) (e ∷ es)
-kept_if compare tells k m v e es inserted Less apart is rest = ap (λ b. cond b (Some v) (lookup (is_at (compare m)) (e ∷ es))) (tells.other m k apart)
-kept_if compare tells k m v e es inserted Equal apart is rest =
-    let misses : is_at (compare m) e.0 ≡ false = tells.other m e.0 (λ same. apart (same ∙ sym (tells.same k e.0 (ap is_eq is)))) in
-    ap (λ b. cond b (Some v) (lookup (is_at (compare m)) es)) misses ∙ sym (ap (λ b. cond b (Some e.1) (lookup (is_at (compare m)) es)) misses)
-kept_if compare tells k m v e es inserted Greater apart is rest = ap (λ r. cond (is_at (compare m) e.0) (Some e.1) r) rest
+  kept_if : (k m : K) (v : X) (e : K × X) (es inserted : List (K × X)) (order : Ordering) → m ≢ k → compare k e.0 ≡ order → lookup (is_at (compare m)) inserted ≡ lookup (is_at (compare m)) es → lookup (is_at (compare m)) (match_ordering order ((k, v) ∷ e ∷ es) ((e.0, v) ∷ es) (e ∷ inserted)) ≡ lookup (is_at (compare m)) (e ∷ es)
+  kept_if k m v e es inserted Less apart is rest = ap (λ b. cond b (Some v) (lookup (is_at (compare m)) (e ∷ es))) (tells.other m k apart)
+  kept_if k m v e es inserted Equal apart is rest =
+      let misses : is_at (compare m) e.0 ≡ false = tells.other m e.0 (λ same. apart (same ∙ sym (tells.same k e.0 (ap is_eq is)))) in
+      ap (λ b. cond b (Some v) (lookup (is_at (compare m)) es)) misses ∙ sym (ap (λ b. cond b (Some e.1) (lookup (is_at (compare m)) es)) misses)
+  kept_if k m v e es inserted Greater apart is rest = ap (λ r. cond (is_at (compare m) e.0) (Some e.1) r) rest
 
--- and what was there under another key
-pub lookup-insert_entry_other : {K X : Type 0} (compare : K → K → Ordering) → Tells compare → (k m : K) (v : X) (es : List (K × X)) → m ≢ k
-    → lookup (is_at (compare m)) (insert_entry compare es k v) ≡ lookup (is_at (compare m)) es
-lookup-insert_entry_other compare tells k m v [] apart = ap (λ b. cond b (Some v) None) (tells.other m k apart)
-lookup-insert_entry_other compare tells k m v (e ∷ es) apart = kept_if compare tells k m v e es (insert_entry compare es k v) (compare k e.0) apart refl (lookup-insert_entry_other compare tells k m v es apart)
+  -- and what was there under another key
+  pub lookup-insert_entry_other : (k m : K) (v : X) (es : List (K × X)) → m ≢ k → lookup (is_at (compare m)) (insert_entry compare es k v) ≡ lookup (is_at (compare m)) es
+  lookup-insert_entry_other k m v [] apart = ap (λ b. cond b (Some v) None) (tells.other m k apart)
+  lookup-insert_entry_other k m v (e ∷ es) apart = kept_if k m v e es (insert_entry compare es k v) (compare k e.0) apart refl (lookup-insert_entry_other k m v es apart)
 
-left_if : {K X : Type 0} (compare : K → K → Ordering) → Tells compare → (k m : K) (e : K × X) (es rest : List (K × X)) (test : Bool) → m ≢ k → is_at (compare k) e.0 ≡ test
-    → lookup (is_at (compare m)) rest ≡ lookup (is_at (compare m)) es → lookup (is_at (compare m)) (cond test es (e ∷ rest)) ≡ lookup (is_at (compare m)) (e ∷ es)
-left_if compare tells k m e es rest true apart is same =
-    sym (ap (λ b. cond b (Some e.1) (lookup (is_at (compare m)) es)) (tells.other m e.0 (λ equal. apart (equal ∙ sym (tells.same k e.0 is)))))
-left_if compare tells k m e es rest false apart is same = ap (λ r. cond (is_at (compare m) e.0) (Some e.1) r) same
+  left_if : (k m : K) (e : K × X) (es rest : List (K × X)) (test : Bool) → m ≢ k → is_at (compare k) e.0 ≡ test → lookup (is_at (compare m)) rest ≡ lookup (is_at (compare m)) es → lookup (is_at (compare m)) (cond test es (e ∷ rest)) ≡ lookup (is_at (compare m)) (e ∷ es)
+  left_if k m e es rest true apart is same =
+      sym (ap (λ b. cond b (Some e.1) (lookup (is_at (compare m)) es)) (tells.other m e.0 (λ equal. apart (equal ∙ sym (tells.same k e.0 is)))))
+  left_if k m e es rest false apart is same = ap (λ r. cond (is_at (compare m) e.0) (Some e.1) r) same
 
--- a removal leaves look-ups of other keys
-pub lookup-remove_entry_other : {K X : Type 0} (compare : K → K → Ordering) → Tells compare → (k m : K) (es : List (K × X)) → m ≢ k
-    → lookup (is_at (compare m)) (remove_entry (is_at (compare k)) es) ≡ lookup (is_at (compare m)) es
-lookup-remove_entry_other compare tells k m [] apart = refl
-lookup-remove_entry_other compare tells k m (e ∷ es) apart =
-    left_if compare tells k m e es (remove_entry (is_at (compare k)) es) (is_at (compare k) e.0) apart refl (lookup-remove_entry_other compare tells k m es apart)
+  -- a removal leaves look-ups of other keys
+  pub lookup-remove_entry_other : (k m : K) (es : List (K × X)) → m ≢ k → lookup (is_at (compare m)) (remove_entry (is_at (compare k)) es) ≡ lookup (is_at (compare m)) es
+  lookup-remove_entry_other k m [] apart = refl
+  lookup-remove_entry_other k m (e ∷ es) apart =
+      left_if k m e es (remove_entry (is_at (compare k)) es) (is_at (compare k) e.0) apart refl (lookup-remove_entry_other k m es apart)
 
 -- ---- look-ups among entries and others behind them
 

@@ -52,31 +52,6 @@ not_same None b apart true is = absurd (cc is)
 
 -- ---- the tree
 
-to_new_name : (t : Tree) (p np x now : ℕ) (n nn : List ℕ) → IsPlain t → entry_at t p n ≡ Some x → entry_at t np nn ≡ None → kind_in (node_at t p) ≡ Some kinds.Directory
-    → kind_in (node_at t np) ≡ Some kinds.Directory → x ≢ np → IsRenamed p n np nn now t (moved_to p n np nn x now t)
-to_new_name t p np x now n nn plain names free folder new_folder outside =
-    let after : Tree = moved_to p n np nn x now t in
-    let old : x ≢ p = plain.apart p x n names in
-    let moves : Moves (shape_of t) (shape_of after) p n np nn x = shape-moved_to t p np x now n nn plain.names new_folder (λ same. not_there (entry_at t) np nn p n x same free names) in
-    let frame : SameFrame t after = SameFrame-moved_to t p np x now n nn in
-    record {
-      inode = x;
-      was = names;
-      old = moves.gone;
-      new = moves.here;
-      third = λ q m other another. moves.rest q m other another;
-      moved = is_stamped now (node_at t x) (node_at after x) (plain.there p x n names) (node_at-moved_to_same t p np x now n nn old outside);
-      parents = λ y is. moved_to-touches t p np x now n nn folder new_folder old outside y is;
-      replaced = λ r is. absurd (none_some (entry_at t np nn) r free is);
-      others = λ y apart from to replaced. node_at-moved_to_other t p np x now y n nn apart from to;
-      handles = frame.handles;
-      next_inode = frame.next_inode;
-      next_handle = frame.next_handle;
-      block_size = frame.block_size;
-      ordered = InOrder-moved_to t p np x now n nn plain.ordered;
-      names = NamesInOrder-moved_to t p np x now n nn plain.names;
-    }
-
 lost_name : (r now : ℕ) (t four after : Tree) → IsSome (node_at t r) → node_at four r ≡ node_at t r → Settles r now four after → HasLostName r now t after
 lost_name r now t four after there same settles =
     elim settles.itself [
@@ -84,43 +59,67 @@ lost_name r now t four after there same settles =
       | inr goes ↦ inr goes
     ]
 
-over_another : (t : Tree) (p np x r now : ℕ) (n nn : List ℕ) → IsPlain t → entry_at t p n ≡ Some x → entry_at t np nn ≡ Some r → kind_in (node_at t p) ≡ Some kinds.Directory
-    → kind_in (node_at t np) ≡ Some kinds.Directory → x ≢ np → x ≢ r → ((m : List ℕ) → entry_at t r m ≡ None)
-    → IsRenamed p n np nn now t (settled r (change_node r (stamped now) (moved_to p n np nn x now t)))
-over_another t p np x r now n nn plain names replaced folder new_folder outside apart empty =
-    let four : Tree = moved_to p n np nn x now t in
-    let after : Tree = settled r (change_node r (stamped now) four) in
-    let old : x ≢ p = plain.apart p x n names in
-    let no_parent : r ≢ p = λ same. none_some (entry_at t r n) x (empty n) (ap (λ k. entry_at t k n) same ∙ names) in
-    let no_new_parent : r ≢ np = λ same. none_some (entry_at t r nn) r (empty nn) (ap (λ k. entry_at t k nn) same ∙ replaced) in
-    let differs : IsPlace np nn p n → ⊥ = λ same. apart (one_entry (entry_at t) np nn p n r x same replaced names) in
-    let moves : Moves (shape_of t) (shape_of four) p n np nn x = shape-moved_to t p np x now n nn plain.names new_folder differs in
-    let frame : SameFrame t four = SameFrame-moved_to t p np x now n nn in
-    let four_ordered : InOrder four = InOrder-moved_to t p np x now n nn plain.ordered in
-    let four_names : NamesInOrder four = NamesInOrder-moved_to t p np x now n nn plain.names in
-    let ends : Settles r now four after = Settles-settled r now four four_ordered four_names in
-    let same : node_at four r ≡ node_at t r = node_at-moved_to_other t p np x now r n nn (λ is. apart (sym is)) no_parent no_new_parent in
-    let entry : (q : ℕ) (m : List ℕ) → entry_at after q m ≡ entry_at four q m = settled_entry r now four after ends (λ m. ap (entry_in m) same ∙ empty m) in
-    record {
-      inode = x;
-      was = names;
-      old = entry p n ∙ moves.gone;
-      new = entry np nn ∙ moves.here;
-      third = λ q m other another. entry q m ∙ moves.rest q m other another;
-      moved = is_stamped now (node_at t x) (node_at after x) (plain.there p x n names) (ends.others x apart ∙ node_at-moved_to_same t p np x now n nn old outside);
-      parents = λ y is.
-          let stays : y ≢ r = λ equal. elim is [ inl first ↦ no_parent (sym equal ∙ first) | inr second ↦ no_new_parent (sym equal ∙ second) ] in
-          touched_on now (node_at t y) (node_at four y) (node_at after y) (moved_to-touches t p np x now n nn folder new_folder old outside y is) (ends.others y stays);
-      replaced = λ y is.
-          subst (λ k. HasLostName k now t after) (one_some _ r y replaced is) (lost_name r now t four after (plain.there np r nn replaced) same ends);
-      others = λ y other from to kept. ends.others y (λ equal. kept (replaced ∙ ap Some (sym equal))) ∙ node_at-moved_to_other t p np x now y n nn other from to;
-      handles = ends.frame.handles ∙ frame.handles;
-      next_inode = ends.frame.next_inode ∙ frame.next_inode;
-      next_handle = ends.frame.next_handle ∙ frame.next_handle;
-      block_size = ends.frame.block_size ∙ frame.block_size;
-      ordered = InOrder-settled r (change_node r (stamped now) four) (InOrder-change_node (stamped now) r four four_ordered);
-      names = NamesInOrder-settled r (change_node r (stamped now) four) (NamesInOrder-stamped now r four four_names);
-    }
+-- an entry whose node does not move below itself
+module _ (t : Tree) (p np x now : ℕ) (n nn : List ℕ) (plain : IsPlain t) (names : entry_at t p n ≡ Some x) (folder : kind_in (node_at t p) ≡ Some kinds.Directory) (new_folder : kind_in (node_at t np) ≡ Some kinds.Directory) (outside : x ≢ np) where
+  to_new_name : entry_at t np nn ≡ None → IsRenamed p n np nn now t (moved_to p n np nn x now t)
+  to_new_name free =
+      let after : Tree = moved_to p n np nn x now t in
+      let old : x ≢ p = plain.apart p x n names in
+      let moves : Moves (shape_of t) (shape_of after) p n np nn x = shape-moved_to t p np x now n nn plain.names new_folder (λ same. not_there (entry_at t) np nn p n x same free names) in
+      let frame : SameFrame t after = SameFrame-moved_to t p np x now n nn in
+      record {
+        inode = x;
+        was = names;
+        old = moves.gone;
+        new = moves.here;
+        third = λ q m other another. moves.rest q m other another;
+        moved = is_stamped now (node_at t x) (node_at after x) (plain.there p x n names) (node_at-moved_to_same t p np x now n nn old outside);
+        parents = λ y is. moved_to-touches t p np x now n nn folder new_folder old outside y is;
+        replaced = λ r is. absurd (none_some (entry_at t np nn) r free is);
+        others = λ y apart from to replaced. node_at-moved_to_other t p np x now n nn y apart from to;
+        handles = frame.handles;
+        next_inode = frame.next_inode;
+        next_handle = frame.next_handle;
+        block_size = frame.block_size;
+        ordered = InOrder-moved_to t p np x now n nn plain.ordered;
+        names = NamesInOrder-moved_to t p np x now n nn plain.names;
+      }
+
+  over_another : (r : ℕ) → entry_at t np nn ≡ Some r → x ≢ r → ((m : List ℕ) → entry_at t r m ≡ None) → IsRenamed p n np nn now t (settled r (change_node r (stamped now) (moved_to p n np nn x now t)))
+  over_another r replaced apart empty =
+      let four : Tree = moved_to p n np nn x now t in
+      let after : Tree = settled r (change_node r (stamped now) four) in
+      let old : x ≢ p = plain.apart p x n names in
+      let no_parent : r ≢ p = λ same. none_some (entry_at t r n) x (empty n) (ap (λ k. entry_at t k n) same ∙ names) in
+      let no_new_parent : r ≢ np = λ same. none_some (entry_at t r nn) r (empty nn) (ap (λ k. entry_at t k nn) same ∙ replaced) in
+      let differs : IsPlace np nn p n → ⊥ = λ same. apart (one_entry (entry_at t) np nn p n r x same replaced names) in
+      let moves : Moves (shape_of t) (shape_of four) p n np nn x = shape-moved_to t p np x now n nn plain.names new_folder differs in
+      let frame : SameFrame t four = SameFrame-moved_to t p np x now n nn in
+      let four_ordered : InOrder four = InOrder-moved_to t p np x now n nn plain.ordered in
+      let four_names : NamesInOrder four = NamesInOrder-moved_to t p np x now n nn plain.names in
+      let ends : Settles r now four after = Settles-settled r now four four_ordered four_names in
+      let same : node_at four r ≡ node_at t r = node_at-moved_to_other t p np x now n nn r (λ is. apart (sym is)) no_parent no_new_parent in
+      let entry : (q : ℕ) (m : List ℕ) → entry_at after q m ≡ entry_at four q m = settled_entry r now four after ends (λ m. ap (entry_in m) same ∙ empty m) in
+      record {
+        inode = x;
+        was = names;
+        old = entry p n ∙ moves.gone;
+        new = entry np nn ∙ moves.here;
+        third = λ q m other another. entry q m ∙ moves.rest q m other another;
+        moved = is_stamped now (node_at t x) (node_at after x) (plain.there p x n names) (ends.others x apart ∙ node_at-moved_to_same t p np x now n nn old outside);
+        parents = λ y is.
+            let stays : y ≢ r = λ equal. elim is [ inl first ↦ no_parent (sym equal ∙ first) | inr second ↦ no_new_parent (sym equal ∙ second) ] in
+            touched_on now (node_at t y) (node_at four y) (node_at after y) (moved_to-touches t p np x now n nn folder new_folder old outside y is) (ends.others y stays);
+        replaced = λ y is.
+            subst (λ k. HasLostName k now t after) (one_some _ r y replaced is) (lost_name r now t four after (plain.there np r nn replaced) same ends);
+        others = λ y other from to kept. ends.others y (λ equal. kept (replaced ∙ ap Some (sym equal))) ∙ node_at-moved_to_other t p np x now n nn y other from to;
+        handles = ends.frame.handles ∙ frame.handles;
+        next_inode = ends.frame.next_inode ∙ frame.next_inode;
+        next_handle = ends.frame.next_handle ∙ frame.next_handle;
+        block_size = ends.frame.block_size ∙ frame.block_size;
+        ordered = InOrder-settled r (change_node r (stamped now) four) (InOrder-change_node (stamped now) r four four_ordered);
+        names = NamesInOrder-settled r (change_node r (stamped now) four) (NamesInOrder-stamped now r four four_names);
+      }
 
 moved_if : (t : Tree) (p : ℕ) (n : List ℕ) (np : ℕ) (nn : List ℕ) (now : ℕ) → IsPlain t → CanMove t p n np nn → (found replaced : Option ℕ) → entry_at t p n ≡ found → entry_at t np nn ≡ replaced
     → IsRenamed p n np nn now t (moved_entry p n np nn now found t)
@@ -131,11 +130,11 @@ moved_if t p n np nn now plain can (Some x) replaced names new =
     let outside : x ≢ np = not_into_itself t x np plain.names new_folder (moves_outside t p n np nn x can names) in
     elim replaced as (λ r. entry_at t np nn ≡ r → IsRenamed p n np nn now t (moved_entry p n np nn now (Some x) t)) [
       | None ↦ λ new. subst (λ r. IsRenamed p n np nn now t (dropped now r (moved_to p n np nn x now t))) (sym new)
-          (to_new_name t p np x now n nn plain names new folder new_folder outside)
+          (to_new_name t p np x now n nn plain names folder new_folder outside new)
       | Some r ↦ λ new.
           let over = replaces_empty t p n np nn x r can names new in
           subst (λ r. IsRenamed p n np nn now t (dropped now r (moved_to p n np nn x now t))) (sym new)
-          (over_another t p np x r now n nn plain names new folder new_folder outside over.0 over.1)
+          (over_another t p np x now n nn plain names folder new_folder outside r new over.0 over.1)
     ] new
 
 -- a Rename whose checks pass moves one entry

@@ -119,91 +119,76 @@ keeps_named name inode old = (_, refl)
 abbrev pub moved_to : ℕ → List ℕ → ℕ → List ℕ → ℕ → ℕ → Tree → Tree
 moved_to p n np nn x now t = change_node x (stamped now) (add_entry np nn x now (drop_entry np nn now (drop_entry p n now t)))
 
-pub shape-moved_to : (t : Tree) (p np x now : ℕ) (n nn : List ℕ) → NamesInOrder t → kind_in (node_at t np) ≡ Some kinds.Directory → (IsPlace np nn p n → ⊥)
-    → Moves (shape_of t) (shape_of (moved_to p n np nn x now t)) p n np nn x
-shape-moved_to t p np x now n nn names folder differs =
-    let one : Tree = drop_entry p n now t in
-    let two : Tree = drop_entry np nn now one in
-    let three : Tree = add_entry np nn x now two in
-    let first : Unlinks (shape_of t) (shape_of one) p n = shape-drop_entry p n now t names in
-    let second : Unlinks (shape_of one) (shape_of two) np nn = shape-drop_entry np nn now one (NamesInOrder-drop_entry p n now t names) in
-    let links : Links (shape_of two) (shape_of three) np nn x = shape-add_entry np nn x now two (second.kind np ∙ first.kind np ∙ folder) in
-    let same : Same (shape_of three) (shape_of (moved_to p n np nn x now t)) = shape-change_node (stamped now) (λ node. refl) (λ name node. refl) x three in
-    record {
-      kind = λ y. same.kind y ∙ links.kind y ∙ second.kind y ∙ first.kind y;
-      opened = λ y. same.opened y ∙ links.opened y ∙ second.opened y ∙ first.opened y;
-      here = same.entry np nn ∙ links.here;
-      gone = same.entry p n ∙ links.rest p n differs ∙ second.rest p n differs ∙ first.gone;
-      rest = λ q m old new. same.entry q m ∙ links.rest q m new ∙ second.rest q m new ∙ first.rest q m old;
-    }
+-- the trees on the way
+module _ (t : Tree) (p np x now : ℕ) (n nn : List ℕ) where
+  abbrev one : Tree
+  one = drop_entry p n now t
 
-pub InOrder-moved_to : (t : Tree) (p np x now : ℕ) (n nn : List ℕ) → InOrder t → InOrder (moved_to p n np nn x now t)
-InOrder-moved_to t p np x now n nn ordered =
-    let one : Tree = drop_entry p n now t in
-    let two : Tree = drop_entry np nn now one in
-    InOrder-change_node (stamped now) x (add_entry np nn x now two) (InOrder-change_node _ np two (InOrder-change_node _ np one (InOrder-change_node _ p t ordered)))
+  abbrev two : Tree
+  two = drop_entry np nn now one
 
-pub NamesInOrder-moved_to : (t : Tree) (p np x now : ℕ) (n nn : List ℕ) → NamesInOrder t → NamesInOrder (moved_to p n np nn x now t)
-NamesInOrder-moved_to t p np x now n nn names =
-    let one : Tree = drop_entry p n now t in
-    let two : Tree = drop_entry np nn now one in
-    NamesInOrder-stamped now x (add_entry np nn x now two) (NamesInOrder-add_entry np nn x now two (NamesInOrder-drop_entry np nn now one (NamesInOrder-drop_entry p n now t names)))
+  abbrev three : Tree
+  three = add_entry np nn x now two
 
-pub SameFrame-moved_to : (t : Tree) (p np x now : ℕ) (n nn : List ℕ) → SameFrame t (moved_to p n np nn x now t)
-SameFrame-moved_to t p np x now n nn =
-    let one : Tree = drop_entry p n now t in
-    let two : Tree = drop_entry np nn now one in
-    let three : Tree = add_entry np nn x now two in
-    frame_trans t one (moved_to p n np nn x now t) (frame_change _ p t)
-    (frame_trans one two (moved_to p n np nn x now t) (frame_change _ np one)
-    (frame_trans two three (moved_to p n np nn x now t) (frame_change _ np two) (frame_change (stamped now) x three)))
+  abbrev after : Tree
+  after = moved_to p n np nn x now t
 
--- the node of another than the directories, before it is stamped
-before_stamp : (t : Tree) (p np x now y : ℕ) (n nn : List ℕ) → y ≢ p → y ≢ np → node_at (add_entry np nn x now (drop_entry np nn now (drop_entry p n now t))) y ≡ node_at t y
-before_stamp t p np x now y n nn old new =
-    let one : Tree = drop_entry p n now t in
-    let two : Tree = drop_entry np nn now one in
-    node_at-change_node_other _ np y two new ∙ node_at-change_node_other _ np y one new ∙ node_at-change_node_other _ p y t old
+  pub shape-moved_to : NamesInOrder t → kind_in (node_at t np) ≡ Some kinds.Directory → (IsPlace np nn p n → ⊥) → Moves (shape_of t) (shape_of after) p n np nn x
+  shape-moved_to names folder differs =
+      let first : Unlinks (shape_of t) (shape_of one) p n = shape-drop_entry p n now t names in
+      let second : Unlinks (shape_of one) (shape_of two) np nn = shape-drop_entry np nn now one (NamesInOrder-drop_entry p n now t names) in
+      let links : Links (shape_of two) (shape_of three) np nn x = shape-add_entry np nn x now two (second.kind np ∙ first.kind np ∙ folder) in
+      let same : Same (shape_of three) (shape_of after) = shape-change_node (stamped now) (λ node. refl) (λ name node. refl) x three in
+      record {
+        kind = λ y. same.kind y ∙ links.kind y ∙ second.kind y ∙ first.kind y;
+        opened = λ y. same.opened y ∙ links.opened y ∙ second.opened y ∙ first.opened y;
+        here = same.entry np nn ∙ links.here;
+        gone = same.entry p n ∙ links.rest p n differs ∙ second.rest p n differs ∙ first.gone;
+        rest = λ q m old new. same.entry q m ∙ links.rest q m new ∙ second.rest q m new ∙ first.rest q m old;
+      }
 
-pub node_at-moved_to_other : (t : Tree) (p np x now y : ℕ) (n nn : List ℕ) → y ≢ x → y ≢ p → y ≢ np → node_at (moved_to p n np nn x now t) y ≡ node_at t y
-node_at-moved_to_other t p np x now y n nn apart old new =
-    node_at-change_node_other (stamped now) x y (add_entry np nn x now (drop_entry np nn now (drop_entry p n now t))) apart ∙ before_stamp t p np x now y n nn old new
+  pub InOrder-moved_to : InOrder t → InOrder after
+  InOrder-moved_to ordered = InOrder-change_node (stamped now) x three (InOrder-change_node _ np two (InOrder-change_node _ np one (InOrder-change_node _ p t ordered)))
 
-pub node_at-moved_to_same : (t : Tree) (p np x now : ℕ) (n nn : List ℕ) → x ≢ p → x ≢ np → node_at (moved_to p n np nn x now t) x ≡ option_map (stamped now) (node_at t x)
-node_at-moved_to_same t p np x now n nn old new =
-    node_at-change_node_same (stamped now) x (add_entry np nn x now (drop_entry np nn now (drop_entry p n now t))) ∙ ap (option_map (stamped now)) (before_stamp t p np x now x n nn old new)
+  pub NamesInOrder-moved_to : NamesInOrder t → NamesInOrder after
+  NamesInOrder-moved_to names = NamesInOrder-stamped now x three (NamesInOrder-add_entry np nn x now two (NamesInOrder-drop_entry np nn now one (NamesInOrder-drop_entry p n now t names)))
 
-old_parent : (t : Tree) (p np x now : ℕ) (n nn : List ℕ) → kind_in (node_at t p) ≡ Some kinds.Directory → p ≢ x → IsTouched now (node_at t p) (node_at (moved_to p n np nn x now t) p)
-old_parent t p np x now n nn folder apart =
-    let one : Tree = drop_entry p n now t in
-    let two : Tree = drop_entry np nn now one in
-    let three : Tree = add_entry np nn x now two in
-    let first : IsTouched now (node_at t p) (node_at one p) = touched_first now (unnamed n) (keeps_unnamed n) p t (node_at t p) refl folder in
-    let second : IsTouched now (node_at t p) (node_at two p) = touched_through now (unnamed nn) (keeps_unnamed nn) np p one (node_at t p) first in
-    let third : IsTouched now (node_at t p) (node_at three p) = touched_through now (named nn x) (keeps_named nn x) np p two (node_at t p) second in
-    touched_on now (node_at t p) (node_at three p) (node_at (moved_to p n np nn x now t) p) third (node_at-change_node_other (stamped now) x p three apart)
+  pub SameFrame-moved_to : SameFrame t after
+  SameFrame-moved_to =
+      frame_trans t one after (frame_change _ p t) (frame_trans one two after (frame_change _ np one) (frame_trans two three after (frame_change _ np two) (frame_change (stamped now) x three)))
 
-new_parent : (t : Tree) (p np x now : ℕ) (n nn : List ℕ) → kind_in (node_at t np) ≡ Some kinds.Directory → np ≢ x → np ≢ p → IsTouched now (node_at t np) (node_at (moved_to p n np nn x now t) np)
-new_parent t p np x now n nn folder apart differs =
-    let one : Tree = drop_entry p n now t in
-    let two : Tree = drop_entry np nn now one in
-    let three : Tree = add_entry np nn x now two in
-    let second : IsTouched now (node_at t np) (node_at two np) = touched_first now (unnamed nn) (keeps_unnamed nn) np one (node_at t np) (node_at-change_node_other _ p np t differs) folder in
-    let third : IsTouched now (node_at t np) (node_at three np) = touched_again now (named nn x) (keeps_named nn x) np two (node_at t np) second in
-    touched_on now (node_at t np) (node_at three np) (node_at (moved_to p n np nn x now t) np) third (node_at-change_node_other (stamped now) x np three apart)
+  -- the node of another than the directories, before it is stamped
+  before_stamp : (y : ℕ) → y ≢ p → y ≢ np → node_at three y ≡ node_at t y
+  before_stamp y old new = node_at-change_node_other _ np y two new ∙ node_at-change_node_other _ np y one new ∙ node_at-change_node_other _ p y t old
 
--- both directories are touched
-pub moved_to-touches : (t : Tree) (p np x now : ℕ) (n nn : List ℕ) → kind_in (node_at t p) ≡ Some kinds.Directory → kind_in (node_at t np) ≡ Some kinds.Directory → x ≢ p → x ≢ np
-    → (y : ℕ) → (y ≡ p) ⊎ (y ≡ np) → IsTouched now (node_at t y) (node_at (moved_to p n np nn x now t) y)
-moved_to-touches t p np x now n nn folder new_folder old new y (inl same) =
-    subst (λ k. IsTouched now (node_at t k) (node_at (moved_to p n np nn x now t) k)) (sym same) (old_parent t p np x now n nn folder (λ is. old (sym is)))
-moved_to-touches t p np x now n nn folder new_folder old new y (inr same) =
-    elim (cases_eq y p) [
-      | inl also ↦ subst (λ k. IsTouched now (node_at t k) (node_at (moved_to p n np nn x now t) k)) (sym also) (old_parent t p np x now n nn folder (λ is. old (sym is)))
-      | inr apart ↦
-          subst (λ k. IsTouched now (node_at t k) (node_at (moved_to p n np nn x now t) k)) (sym same)
-          (new_parent t p np x now n nn new_folder (λ is. new (sym is)) (λ is. apart (same ∙ is)))
-    ]
+  pub node_at-moved_to_other : (y : ℕ) → y ≢ x → y ≢ p → y ≢ np → node_at after y ≡ node_at t y
+  node_at-moved_to_other y apart old new = node_at-change_node_other (stamped now) x y three apart ∙ before_stamp y old new
+
+  pub node_at-moved_to_same : x ≢ p → x ≢ np → node_at after x ≡ option_map (stamped now) (node_at t x)
+  node_at-moved_to_same old new = node_at-change_node_same (stamped now) x three ∙ ap (option_map (stamped now)) (before_stamp x old new)
+
+  old_parent : kind_in (node_at t p) ≡ Some kinds.Directory → p ≢ x → IsTouched now (node_at t p) (node_at after p)
+  old_parent folder apart =
+      let first : IsTouched now (node_at t p) (node_at one p) = touched_first now (unnamed n) (keeps_unnamed n) p t (node_at t p) refl folder in
+      let second : IsTouched now (node_at t p) (node_at two p) = touched_through now (unnamed nn) (keeps_unnamed nn) np p one (node_at t p) first in
+      let third : IsTouched now (node_at t p) (node_at three p) = touched_through now (named nn x) (keeps_named nn x) np p two (node_at t p) second in
+      touched_on now (node_at t p) (node_at three p) (node_at after p) third (node_at-change_node_other (stamped now) x p three apart)
+
+  new_parent : kind_in (node_at t np) ≡ Some kinds.Directory → np ≢ x → np ≢ p → IsTouched now (node_at t np) (node_at after np)
+  new_parent folder apart differs =
+      let second : IsTouched now (node_at t np) (node_at two np) = touched_first now (unnamed nn) (keeps_unnamed nn) np one (node_at t np) (node_at-change_node_other _ p np t differs) folder in
+      let third : IsTouched now (node_at t np) (node_at three np) = touched_again now (named nn x) (keeps_named nn x) np two (node_at t np) second in
+      touched_on now (node_at t np) (node_at three np) (node_at after np) third (node_at-change_node_other (stamped now) x np three apart)
+
+  -- both directories are touched
+  pub moved_to-touches : kind_in (node_at t p) ≡ Some kinds.Directory → kind_in (node_at t np) ≡ Some kinds.Directory → x ≢ p → x ≢ np → (y : ℕ) → (y ≡ p) ⊎ (y ≡ np)
+      → IsTouched now (node_at t y) (node_at after y)
+  moved_to-touches folder new_folder old new y (inl same) = subst (λ k. IsTouched now (node_at t k) (node_at after k)) (sym same) (old_parent folder (λ is. old (sym is)))
+  moved_to-touches folder new_folder old new y (inr same) =
+      elim (cases_eq y p) [
+        | inl also ↦ subst (λ k. IsTouched now (node_at t k) (node_at after k)) (sym also) (old_parent folder (λ is. old (sym is)))
+        | inr apart ↦ subst (λ k. IsTouched now (node_at t k) (node_at after k)) (sym same) (new_parent new_folder (λ is. new (sym is)) (λ is. apart (same ∙ is)))
+      ]
 
 -- ---- a node that is stamped, and goes where nothing keeps it
 

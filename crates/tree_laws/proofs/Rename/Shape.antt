@@ -64,68 +64,66 @@ branch_of t x np kinds.Link sound kind folder passes =
     let both_ways : Some kinds.Link ≡ Some kinds.Directory = sym kind ∙ is in
     cc both_ways) folder
 
--- ---- the tree in which the entry has moved
-
 -- ---- a rename
 
-to_a_new_name : (t : Tree) (p np x now : ℕ) (n nn : List ℕ) → Sound t → Branch t x np → entry_at t p n ≡ Some x → entry_at t np nn ≡ None → kind_in (node_at t np) ≡ Some kinds.Directory
-    → keep_check p n ≡ None → Grown NoneGoes (shape_of (moved_to p n np nn x now t))
-to_a_new_name t p np x now n nn sound branch names free folder keep =
-    Grown-moved NoneGoes (shape_of t) (shape_of (moved_to p n np nn x now t)) p np x n nn branch.among
-    (shape-moved_to t p np x now n nn sound.names folder (λ same. not_there (entry_at t) np nn p n x same free names))
-    (record {
-      names = names;
-      free = free;
-      folder = folder;
-      stays = λ none. none;
-      parent_stays = λ none. none;
-      other = keep_is p n keep;
-      below = branch.below;
-      outside = branch.outside;
-    })
-    sound.grown
+-- an entry whose node does not move below itself
+module _ (t : Tree) (p np x now : ℕ) (n nn : List ℕ) (sound : Sound t) (branch : Branch t x np) (names : entry_at t p n ≡ Some x) (folder : kind_in (node_at t np) ≡ Some kinds.Directory) (keep : keep_check p n ≡ None) where
+  to_a_new_name : entry_at t np nn ≡ None → Grown NoneGoes (shape_of (moved_to p n np nn x now t))
+  to_a_new_name free =
+      Grown-moved NoneGoes (shape_of t) (shape_of (moved_to p n np nn x now t)) p np x n nn branch.among
+      (shape-moved_to t p np x now n nn sound.names folder (λ same. not_there (entry_at t) np nn p n x same free names))
+      (record {
+        names = names;
+        free = free;
+        folder = folder;
+        stays = λ none. none;
+        parent_stays = λ none. none;
+        other = keep_is p n keep;
+        below = branch.below;
+        outside = branch.outside;
+      })
+      sound.grown
 
--- what lies below the node that moves is as it was where another entry has gone
-still_below : (t : Tree) (np x now : ℕ) (nn : List ℕ) → Sound t → (branch : Branch t x np) → IsBelow (shape_of (drop_entry np nn now t)) x branch.among
-still_below t np x now nn sound branch =
-    let drops : Unlinks (shape_of t) (shape_of (drop_entry np nn now t)) np nn = shape-drop_entry np nn now t sound.names in
-    let differs : (q : ℕ) (m : List ℕ) → branch.among q ≡ true → IsPlace np nn q m → ⊥ = λ q m within same.
-    both_ways _ (ap branch.among same.0 ∙ branch.outside) within in
-    record {
-      itself = branch.below.itself;
-      down = λ q y m within is. branch.below.down q y m within (sym (drops.rest q m (differs q m within)) ∙ is);
-      up = λ y within.
-          elim (branch.below.up y within) [
-            | inl same ↦ inl same
-            | inr from ↦ inr (from.0, from.1, from.2, drops.rest from.0 from.1 (differs from.0 from.1 from.2) ∙ from.3)
-          ];
-    }
+  -- what lies below the node that moves is as it was where another entry has gone
+  still_below : IsBelow (shape_of (drop_entry np nn now t)) x branch.among
+  still_below =
+      let drops : Unlinks (shape_of t) (shape_of (drop_entry np nn now t)) np nn = shape-drop_entry np nn now t sound.names in
+      let differs : (q : ℕ) (m : List ℕ) → branch.among q ≡ true → IsPlace np nn q m → ⊥ = λ q m within same.
+      both_ways _ (ap branch.among same.0 ∙ branch.outside) within in
+      record {
+        itself = branch.below.itself;
+        down = λ q y m within is. branch.below.down q y m within (sym (drops.rest q m (differs q m within)) ∙ is);
+        up = λ y within.
+            elim (branch.below.up y within) [
+              | inl same ↦ inl same
+              | inr from ↦ inr (from.0, from.1, from.2, drops.rest from.0 from.1 (differs from.0 from.1 from.2) ∙ from.3)
+            ];
+      }
 
-over_another : (t : Tree) (p np x r now : ℕ) (n nn : List ℕ) → Sound t → Branch t x np → entry_at t p n ≡ Some x → entry_at t np nn ≡ Some r → x ≢ r → kind_in (node_at t np) ≡ Some kinds.Directory
-    → keep_check p n ≡ None → keep_check np nn ≡ None → ((m : List ℕ) → entry_at t r m ≡ None) → Grown (Only r) (shape_of (moved_to p n np nn x now t))
-over_another t p np x r now n nn sound branch names replaced apart folder keep new_keep empty =
-    let differs : IsPlace np nn p n → ⊥ = λ same. apart (one_entry (entry_at t) np nn p n r x same replaced names) in
-    let drops : Unlinks (shape_of t) (shape_of (drop_entry np nn now t)) np nn = shape-drop_entry np nn now t sound.names in
-    let moves : Moves (shape_of t) (shape_of (moved_to p n np nn x now t)) p n np nn x = shape-moved_to t p np x now n nn sound.names folder differs in
-    Grown-moved (Only r) (shape_of (drop_entry np nn now t)) (shape_of (moved_to p n np nn x now t)) p np x n nn branch.among
-    (record {
-      kind = λ y. moves.kind y ∙ sym (drops.kind y);
-      opened = λ y. moves.opened y ∙ sym (drops.opened y);
-      here = moves.here;
-      gone = moves.gone;
-      rest = λ q m old new. moves.rest q m old new ∙ sym (drops.rest q m new);
-    })
-    (record {
-      names = drops.rest p n differs ∙ names;
-      free = drops.gone;
-      folder = drops.kind np ∙ folder;
-      stays = apart;
-      parent_stays = λ same. none_some (entry_at t r nn) r (empty nn) (ap (λ k. entry_at t k nn) (sym same) ∙ replaced);
-      other = keep_is p n keep;
-      below = still_below t np x now nn sound branch;
-      outside = branch.outside;
-    })
-    (Grown-unlinked (shape_of t) (shape_of (drop_entry np nn now t)) np r nn drops sound.grown replaced (keep_is np nn new_keep) empty)
+  over_another : (r : ℕ) → entry_at t np nn ≡ Some r → x ≢ r → keep_check np nn ≡ None → ((m : List ℕ) → entry_at t r m ≡ None) → Grown (Only r) (shape_of (moved_to p n np nn x now t))
+  over_another r replaced apart new_keep empty =
+      let differs : IsPlace np nn p n → ⊥ = λ same. apart (one_entry (entry_at t) np nn p n r x same replaced names) in
+      let drops : Unlinks (shape_of t) (shape_of (drop_entry np nn now t)) np nn = shape-drop_entry np nn now t sound.names in
+      let moves : Moves (shape_of t) (shape_of (moved_to p n np nn x now t)) p n np nn x = shape-moved_to t p np x now n nn sound.names folder differs in
+      Grown-moved (Only r) (shape_of (drop_entry np nn now t)) (shape_of (moved_to p n np nn x now t)) p np x n nn branch.among
+      (record {
+        kind = λ y. moves.kind y ∙ sym (drops.kind y);
+        opened = λ y. moves.opened y ∙ sym (drops.opened y);
+        here = moves.here;
+        gone = moves.gone;
+        rest = λ q m old new. moves.rest q m old new ∙ sym (drops.rest q m new);
+      })
+      (record {
+        names = drops.rest p n differs ∙ names;
+        free = drops.gone;
+        folder = drops.kind np ∙ folder;
+        stays = apart;
+        parent_stays = λ same. none_some (entry_at t r nn) r (empty nn) (ap (λ k. entry_at t k nn) (sym same) ∙ replaced);
+        other = keep_is p n keep;
+        below = still_below;
+        outside = branch.outside;
+      })
+      (Grown-unlinked (shape_of t) (shape_of (drop_entry np nn now t)) np r nn drops sound.grown replaced (keep_is np nn new_keep) empty)
 
 renamed_if : (t : Tree) (p : ℕ) (n : List ℕ) (np : ℕ) (nn : List ℕ) (now : ℕ) → Sound t → CanMove t p n np nn → (found replaced : Option ℕ) → entry_at t p n ≡ found → entry_at t np nn ≡ replaced
     → Grown NoneGoes (shape_of (moved_entry p n np nn now found t))
@@ -136,12 +134,12 @@ renamed_if t p n np nn now sound can (Some x) replaced names new =
     let branch : Branch t x np = branch_of t x np node.0 sound node.1 folder (moves_outside t p n np nn x can names) in
     elim replaced as (λ r. entry_at t np nn ≡ r → Grown NoneGoes (shape_of (moved_entry p n np nn now (Some x) t))) [
       | None ↦ λ new. subst (λ r. Grown NoneGoes (shape_of (dropped now r (moved_to p n np nn x now t)))) (sym new)
-          (to_a_new_name t p np x now n nn sound branch names new folder can.rename.kept)
+          (to_a_new_name t p np x now n nn sound branch names folder can.rename.kept new)
       | Some r ↦ λ new.
           let over = replaces_empty t p n np nn x r can names new in
           subst (λ r. Grown NoneGoes (shape_of (dropped now r (moved_to p n np nn x now t)))) (sym new)
           (Grown-stamped_settled r now (moved_to p n np nn x now t) (InOrder-moved_to t p np x now n nn sound.ordered) (NamesInOrder-moved_to t p np x now n nn sound.names)
-          (over_another t p np x r now n nn sound branch names new over.0 folder can.rename.kept can.rename.new_kept over.1))
+          (over_another t p np x now n nn sound branch names folder can.rename.kept r new over.0 can.rename.new_kept over.1))
     ] new
 
 -- a Rename keeps one tree of names

@@ -16,49 +16,49 @@ pub record Unlinks (v w : Shape) (p : ℕ) (n : List ℕ) : Type 0 where
   pub gone : w.entry p n ≡ None
   pub rest : (q : ℕ) (m : List ℕ) → (IsPlace p n q m → ⊥) → w.entry q m ≡ v.entry q m
 
-fewer : (v w : Shape) (p : ℕ) (n : List ℕ) → Unlinks v w p n → (q y : ℕ) (m : List ℕ) → w.entry q m ≡ Some y → v.entry q m ≡ Some y
-fewer v w p n unlinks q y m is =
-    elim (cases_place p n q m) [
-      | inl same ↦ absurd (not_there w.entry p n q m y same unlinks.gone is)
-      | inr differs ↦ sym (unlinks.rest q m differs) ∙ is
-    ]
+-- where an entry goes
+module _ (v w : Shape) (p x : ℕ) (n : List ℕ) (unlinks : Unlinks v w p n) (grown : Grown NoneGoes v) (names : v.entry p n ≡ Some x) where
+  fewer : (q y : ℕ) (m : List ℕ) → w.entry q m ≡ Some y → v.entry q m ≡ Some y
+  fewer q y m is =
+      elim (cases_place p n q m) [
+        | inl same ↦ absurd (not_there w.entry p n q m y same unlinks.gone is)
+        | inr differs ↦ sym (unlinks.rest q m differs) ∙ is
+      ]
 
-leads_past : (v w : Shape) (p x : ℕ) (n : List ℕ) → Unlinks v w p n → v.entry p n ≡ Some x → ((m : List ℕ) → v.entry x m ≡ None) → (steps y : ℕ) → y ≢ x → Leads v.entry steps y
-    → Leads w.entry steps y
-leads_past v w p x n unlinks names empty zero y apart leads = leads
-leads_past v w p x n unlinks names empty (suc steps) y apart leads = (
-  leads.0,
-  leads.1,
-  unlinks.rest leads.0 leads.1 (λ same. apart (one_entry v.entry p n leads.0 leads.1 x y same names leads.2)) ∙ leads.2,
-  leads_past v w p x n unlinks names empty steps leads.0 (λ same. none_some _ y (empty leads.1) (ap (λ k. v.entry k leads.1) (sym same) ∙ leads.2)) leads.3,
-)
+  leads_past : ((m : List ℕ) → v.entry x m ≡ None) → (steps y : ℕ) → y ≢ x → Leads v.entry steps y → Leads w.entry steps y
+  leads_past empty zero y apart leads = leads
+  leads_past empty (suc steps) y apart leads = (
+    leads.0,
+    leads.1,
+    unlinks.rest leads.0 leads.1 (λ same. apart (one_entry v.entry p n leads.0 leads.1 x y same names leads.2)) ∙ leads.2,
+    leads_past empty steps leads.0 (λ same. none_some _ y (empty leads.1) (ap (λ k. v.entry k leads.1) (sym same) ∙ leads.2)) leads.3,
+  )
 
--- what it named, without entries, may go
-pub Grown-unlinked : (v w : Shape) (p x : ℕ) (n : List ℕ) → Unlinks v w p n → Grown NoneGoes v → v.entry p n ≡ Some x → (IsPlace root lost_and_found p n → ⊥) → ((m : List ℕ) → v.entry x m ≡ None)
-    → Grown (Only x) w
-Grown-unlinked v w p x n unlinks grown names free empty = record {
-  rooted = unlinks.kind root ∙ grown.rooted;
-  top = λ q m is. grown.top q m (fewer v w p n unlinks q root m is);
-  kept = (grown.kept.0, unlinks.rest root lost_and_found (λ same. free (sym same.0, sym same.1)) ∙ grown.kept.1, unlinks.kind grown.kept.0 ∙ grown.kept.2);
-  holds = λ q y m is. unlinks.kind q ∙ grown.holds q y m (fewer v w p n unlinks q y m is);
-  there = λ q y m is.
-      let found = grown.there q y m (fewer v w p n unlinks q y m is) in
-      (found.0, unlinks.kind y ∙ found.1);
-  once = λ q r y m l is first second. grown.once q r y m l (sym (unlinks.kind y) ∙ is) (fewer v w p n unlinks q y m first) (fewer v w p n unlinks r y l second);
-  leads = λ y stays is.
-      let way = grown.leads y (λ no. no) (sym (unlinks.kind y) ∙ is) in
-      (way.0, leads_past v w p x n unlinks names empty way.0 y stays way.1);
-  orphans = λ y k stays is inner unnamed.
-      let found = grown.orphans y k (λ no. no) (sym (unlinks.kind y) ∙ is) inner
-      (λ q m also. unnamed q m (unlinks.rest q m (λ same. stays (one_entry v.entry p n q m x y same names also)) ∙ also)) in
-      (found.0, unlinks.opened y ∙ found.1);
-  handles = λ y is. unlinks.kind y ∙ grown.handles y (sym (unlinks.opened y) ∙ is);
-  bare = λ y goes is q m also.
-      let place = grown.once p q y n m (sym (unlinks.kind y) ∙ is) (names ∙ ap Some (sym goes)) (fewer v w p n unlinks q y m also) in
-      not_there w.entry p n q m y place unlinks.gone also;
-  empty = λ y m goes. none_from (w.entry y m) (λ z is. none_some _ z (ap (λ k. v.entry k m) goes ∙ empty m) (fewer v w p n unlinks y z m is));
-  inner = λ y goes same. grown.top p n (names ∙ ap Some (sym goes ∙ same));
-}
+  -- what it named, without entries, may go
+  pub Grown-unlinked : (IsPlace root lost_and_found p n → ⊥) → ((m : List ℕ) → v.entry x m ≡ None) → Grown (Only x) w
+  Grown-unlinked free empty = record {
+    rooted = unlinks.kind root ∙ grown.rooted;
+    top = λ q m is. grown.top q m (fewer q root m is);
+    kept = (grown.kept.0, unlinks.rest root lost_and_found (λ same. free (sym same.0, sym same.1)) ∙ grown.kept.1, unlinks.kind grown.kept.0 ∙ grown.kept.2);
+    holds = λ q y m is. unlinks.kind q ∙ grown.holds q y m (fewer q y m is);
+    there = λ q y m is.
+        let found = grown.there q y m (fewer q y m is) in
+        (found.0, unlinks.kind y ∙ found.1);
+    once = λ q r y m l is first second. grown.once q r y m l (sym (unlinks.kind y) ∙ is) (fewer q y m first) (fewer r y l second);
+    leads = λ y stays is.
+        let way = grown.leads y (λ no. no) (sym (unlinks.kind y) ∙ is) in
+        (way.0, leads_past empty way.0 y stays way.1);
+    orphans = λ y k stays is inner unnamed.
+        let found = grown.orphans y k (λ no. no) (sym (unlinks.kind y) ∙ is) inner
+        (λ q m also. unnamed q m (unlinks.rest q m (λ same. stays (one_entry v.entry p n q m x y same names also)) ∙ also)) in
+        (found.0, unlinks.opened y ∙ found.1);
+    handles = λ y is. unlinks.kind y ∙ grown.handles y (sym (unlinks.opened y) ∙ is);
+    bare = λ y goes is q m also.
+        let place = grown.once p q y n m (sym (unlinks.kind y) ∙ is) (names ∙ ap Some (sym goes)) (fewer q y m also) in
+        not_there w.entry p n q m y place unlinks.gone also;
+    empty = λ y m goes. none_from (w.entry y m) (λ z is. none_some _ z (ap (λ k. v.entry k m) goes ∙ empty m) (fewer y z m is));
+    inner = λ y goes same. grown.top p n (names ∙ ap Some (sym goes ∙ same));
+  }
 
 -- ---- a node that goes
 
@@ -70,51 +70,53 @@ pub record Removes (v w : Shape) (x : ℕ) : Type 0 where
   pub none : (m : List ℕ) → w.entry x m ≡ None
   pub opened : (y : ℕ) → w.opened y ≡ v.opened y
 
-still_there : (v w : Shape) (x : ℕ) → Removes v w x → (y : ℕ) (k : Kind) → w.kind y ≡ Some k → v.kind y ≡ Some k
-still_there v w x removes y k is =
-    elim (cases_eq y x) [
-      | inl same ↦ absurd (none_some _ k removes.gone (ap w.kind (sym same) ∙ is))
-      | inr apart ↦ sym (removes.kind y apart) ∙ is
-    ]
+-- where a node goes
+module _ (v w : Shape) (x : ℕ) (removes : Removes v w x) where
+  still_there : (y : ℕ) (k : Kind) → w.kind y ≡ Some k → v.kind y ≡ Some k
+  still_there y k is =
+      elim (cases_eq y x) [
+        | inl same ↦ absurd (none_some _ k removes.gone (ap w.kind (sym same) ∙ is))
+        | inr apart ↦ sym (removes.kind y apart) ∙ is
+      ]
 
-same_entries : (v w : Shape) (x : ℕ) → Removes v w x → ((m : List ℕ) → v.entry x m ≡ None) → (q : ℕ) (m : List ℕ) → w.entry q m ≡ v.entry q m
-same_entries v w x removes empty q m =
-    elim (cases_eq q x) [
-      | inl same ↦ ap (λ k. w.entry k m) same ∙ removes.none m ∙ sym (empty m) ∙ ap (λ k. v.entry k m) (sym same)
-      | inr apart ↦ removes.entry q m apart
-    ]
+  same_entries : ((m : List ℕ) → v.entry x m ≡ None) → (q : ℕ) (m : List ℕ) → w.entry q m ≡ v.entry q m
+  same_entries empty q m =
+      elim (cases_eq q x) [
+        | inl same ↦ ap (λ k. w.entry k m) same ∙ removes.none m ∙ sym (empty m) ∙ ap (λ k. v.entry k m) (sym same)
+        | inr apart ↦ removes.entry q m apart
+      ]
 
--- what was about to go is gone
-pub Grown-removed : (v w : Shape) (x : ℕ) → Removes v w x → Grown (Only x) v → IsUnnamed v x → (v.opened x ≡ true → ⊥) → Grown NoneGoes w
-Grown-removed v w x removes grown unnamed closed =
-    let entry : (q : ℕ) (m : List ℕ) → w.entry q m ≡ v.entry q m = same_entries v w x removes (λ m. grown.empty x m refl) in
-    let apart : (q y : ℕ) (m : List ℕ) → v.entry q m ≡ Some y → y ≢ x = λ q y m is same. unnamed q m (is ∙ ap Some same) in
-    record {
-      rooted = removes.kind root (λ same. grown.inner x refl (sym same)) ∙ grown.rooted;
-      top = λ q m is. grown.top q m (sym (entry q m) ∙ is);
-      kept = (grown.kept.0, entry root lost_and_found ∙ grown.kept.1, removes.kind grown.kept.0 (apart root grown.kept.0 lost_and_found grown.kept.1) ∙ grown.kept.2);
-      holds = λ q y m is.
-          let old : v.entry q m ≡ Some y = sym (entry q m) ∙ is in
-          removes.kind q (λ same. none_some _ y (grown.empty q m same) old) ∙ grown.holds q y m old;
-      there = λ q y m is.
-          let old : v.entry q m ≡ Some y = sym (entry q m) ∙ is in
-          let found = grown.there q y m old in
-          (found.0, removes.kind y (apart q y m old) ∙ found.1);
-      once = λ q r y m l is first second. grown.once q r y m l (still_there v w x removes y _ is) (sym (entry q m) ∙ first) (sym (entry r l) ∙ second);
-      leads = λ y stays is.
-          let old : v.kind y ≡ Some kinds.Directory = still_there v w x removes y _ is in
-          let way = grown.leads y (λ same. none_some _ kinds.Directory removes.gone (ap w.kind (sym same) ∙ is)) old in
-          (way.0, leads_on v.entry w.entry (λ q z m names. entry q m ∙ names) way.0 y way.1);
-      orphans = λ y k stays is inner alone.
-          let found = grown.orphans y k (λ same. none_some _ k removes.gone (ap w.kind (sym same) ∙ is)) (still_there v w x removes y k is) inner (λ q m names. alone q m (entry q m ∙ names)) in
-          (found.0, removes.opened y ∙ found.1);
-      handles = λ y is.
-          let old : v.opened y ≡ true = sym (removes.opened y) ∙ is in
-          removes.kind y (λ same. closed (ap v.opened (sym same) ∙ old)) ∙ grown.handles y old;
-      bare = λ y goes. absurd goes;
-      empty = λ y m goes. absurd goes;
-      inner = λ y goes. absurd goes;
-    }
+  -- what was about to go is gone
+  pub Grown-removed : Grown (Only x) v → IsUnnamed v x → (v.opened x ≡ true → ⊥) → Grown NoneGoes w
+  Grown-removed grown unnamed closed =
+      let entry : (q : ℕ) (m : List ℕ) → w.entry q m ≡ v.entry q m = same_entries (λ m. grown.empty x m refl) in
+      let apart : (q y : ℕ) (m : List ℕ) → v.entry q m ≡ Some y → y ≢ x = λ q y m is same. unnamed q m (is ∙ ap Some same) in
+      record {
+        rooted = removes.kind root (λ same. grown.inner x refl (sym same)) ∙ grown.rooted;
+        top = λ q m is. grown.top q m (sym (entry q m) ∙ is);
+        kept = (grown.kept.0, entry root lost_and_found ∙ grown.kept.1, removes.kind grown.kept.0 (apart root grown.kept.0 lost_and_found grown.kept.1) ∙ grown.kept.2);
+        holds = λ q y m is.
+            let old : v.entry q m ≡ Some y = sym (entry q m) ∙ is in
+            removes.kind q (λ same. none_some _ y (grown.empty q m same) old) ∙ grown.holds q y m old;
+        there = λ q y m is.
+            let old : v.entry q m ≡ Some y = sym (entry q m) ∙ is in
+            let found = grown.there q y m old in
+            (found.0, removes.kind y (apart q y m old) ∙ found.1);
+        once = λ q r y m l is first second. grown.once q r y m l (still_there y _ is) (sym (entry q m) ∙ first) (sym (entry r l) ∙ second);
+        leads = λ y stays is.
+            let old : v.kind y ≡ Some kinds.Directory = still_there y _ is in
+            let way = grown.leads y (λ same. none_some _ kinds.Directory removes.gone (ap w.kind (sym same) ∙ is)) old in
+            (way.0, leads_on v.entry w.entry (λ q z m names. entry q m ∙ names) way.0 y way.1);
+        orphans = λ y k stays is inner alone.
+            let found = grown.orphans y k (λ same. none_some _ k removes.gone (ap w.kind (sym same) ∙ is)) (still_there y k is) inner (λ q m names. alone q m (entry q m ∙ names)) in
+            (found.0, removes.opened y ∙ found.1);
+        handles = λ y is.
+            let old : v.opened y ≡ true = sym (removes.opened y) ∙ is in
+            removes.kind y (λ same. closed (ap v.opened (sym same) ∙ old)) ∙ grown.handles y old;
+        bare = λ y goes. absurd goes;
+        empty = λ y m goes. absurd goes;
+        inner = λ y goes. absurd goes;
+      }
 
 -- a node that was about to go stays, since an entry names it or it is open
 pub Grown-spared : (v : Shape) (x : ℕ) → Grown (Only x) v → (IsUnnamed v x → v.opened x ≡ true) → Grown NoneGoes v
