@@ -1,15 +1,17 @@
--- Counts of rows by key.
-use Rattle.std.proofs.Common.{◌≡◌, ℕ, ◌+◌, List, [], ◌∷◌, Bool, true, false, cond, Some, refl, sym, ap, ◌∙◌, arith}
+-- Sums and counts of rows by key.
+use Rattle.std.proofs.Common.{◌≡◌, ℕ, suc, ◌+◌, List, [], ◌∷◌, length, Bool, true, false, cond, None, Some, refl, sym, ap, ◌∙◌, arith}
 use Rattle.std.specs.Prelude.{IsTrue, not, is_some, count_by, sum_by}
 use Rattle.std.proofs.lemmas.List.Sums.{sum_by-cons}
 use Rattle.std.specs.Cmp.{IsTotalOrder}
 use Rattle.std.specs.declared.cmp.Ordering.{Ordering}
 use Rattle.std.specs.declared.cmp.Ordering.TheVariants.{Less, Equal, Greater}
 use Rattle.std.specs.Ordering.{is_eq}
-use Rattle.s3_rows.specs.Keyed.{Order, is_past, has_key, rises, put, row_at}
-use Rattle.row_lemmas.proofs.Tests.{less_from_is_lt, list_all_weaker}
-use Rattle.row_lemmas.proofs.Sums.{count_by_none}
+use Rattle.s3_rows.specs.Keyed.{Order, is_past, has_key, rises, put, without, row_at}
+use Rattle.row_lemmas.proofs.Tests.{less_from_is_lt, equal_from_is_eq, list_all_weaker}
+use Rattle.row_lemmas.proofs.Sums.{count_by_true, count_by_none}
 use Rattle.row_lemmas.proofs.Keyed.Rises.{rises_tail, rises_behind}
+use Rattle.row_lemmas.proofs.Keyed.RowAt.{row_at_behind}
+use Rattle.row_lemmas.proofs.Keyed.Without.{row_at-without_same, without_none, put-without}
 
 module _ {K R : Type 0} (o : Order K R) where
   -- a put of a new key adds to a sum
@@ -54,3 +56,47 @@ module _ {K R : Type 0} (o : Order K R) where
       by_case others Less is found = counted false 1 (ap is_eq is) (others found)
       by_case others Equal is found = counted true 0 (ap is_eq is) (count_by_none (has_key o k) xs (list_all_weaker (is_past o k) (λ r. not (has_key o k r)) apart xs (rises_behind o total k x xs up is)))
       by_case others Greater is found = counted false 1 (ap is_eq is) (others found)
+
+  module _ (total : IsTotalOrder o.compare) where
+    -- a delete takes the row's part from a sum
+    pub sum_by-without_there : (f : R → ℕ) (k : K) (r : R) (rows : List R) → IsTrue (rises o rows) → row_at o k rows ≡ Some r
+        → f r + sum_by f (without o k rows) ≡ sum_by f rows
+    sum_by-without_there f k r [] up there = absurd (cc there)
+    sum_by-without_there f k r (x ∷ xs) up there =
+        by_case (sum_by-without_there f k r xs (rises_tail o x xs up)) (has_key o k x) refl there
+      where
+        by_case : (row_at o k xs ≡ Some r → f r + sum_by f (without o k xs) ≡ sum_by f xs) → (b : Bool) → has_key o k x ≡ b
+            → cond b (Some x) (row_at o k xs) ≡ Some r
+            → f r + sum_by f (cond (not b) (x ∷ without o k xs) (without o k xs)) ≡ sum_by f (x ∷ xs)
+        by_case others true own found =
+            let same : x ≡ r = cc found in
+            let none : row_at o k xs ≡ None = row_at_behind o total k x xs up (equal_from_is_eq (o.compare k (o.key x)) own) in
+            ap (λ ys. f r + sum_by f ys) (without_none o k xs (ap is_some none)) ∙ ap (λ y. f y + sum_by f xs) (sym same)
+            ∙ sym (sum_by-cons f x xs)
+        by_case others false own found =
+            omega (arith, others found, sum_by-cons f x (without o k xs), sum_by-cons f x xs)
+
+    -- a put in place of a row gives its own part for that row's
+    pub sum_by-put_there : (f : R → ℕ) (new old : R) (rows : List R) → IsTrue (rises o rows)
+        → row_at o (o.key new) rows ≡ Some old → f old + sum_by f (put o new rows) ≡ f new + sum_by f rows
+    sum_by-put_there f new old rows up there =
+        let rest : List R = without o (o.key new) rows in
+        let made : sum_by f (put o new rows) ≡ f new + sum_by f rest =
+        ap (sum_by f) (sym (put-without o total new rows up))
+        ∙ sum_by-put_new f new rest (ap is_some (row_at-without_same o total (o.key new) rows)) in
+        omega (arith, made, sum_by-without_there f (o.key new) old rows up there)
+
+    pub count_by-without_there : (p : R → Bool) (k : K) (r : R) (rows : List R) → IsTrue (rises o rows)
+        → row_at o k rows ≡ Some r → cond (p r) 1 0 + count_by p (without o k rows) ≡ count_by p rows
+    count_by-without_there p k r rows up there = sum_by-without_there (λ y. cond (p y) 1 0) k r rows up there
+
+    pub count_by-put_there : (p : R → Bool) (new old : R) (rows : List R) → IsTrue (rises o rows)
+        → row_at o (o.key new) rows ≡ Some old
+        → cond (p old) 1 0 + count_by p (put o new rows) ≡ cond (p new) 1 0 + count_by p rows
+    count_by-put_there p new old rows up there = sum_by-put_there (λ y. cond (p y) 1 0) new old rows up there
+
+    pub length-without_there : (k : K) (r : R) (rows : List R) → IsTrue (rises o rows) → row_at o k rows ≡ Some r
+        → suc (length (without o k rows)) ≡ length rows
+    length-without_there k r rows up there =
+        let one : R → ℕ = λ y. 1 in
+        omega (arith, sum_by-without_there one k r rows up there, count_by_true (without o k rows), count_by_true rows)
