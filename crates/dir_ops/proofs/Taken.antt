@@ -14,12 +14,12 @@ use Rattle.s3_rows.specs.Keyed.{has_key}
 use Rattle.s3_rows.specs.Tables.{Tables, by_name, by_entry}
 use Rattle.s3_rows.specs.Selections.{name_at, name_of_bytes, entry_at, bytes_cmp, bytes_of_name}
 use Rattle.s3_rows.specs.Told.{Told, IfTold}
-use Rattle.s3_rows.specs.Validity.{IsValid, HasUniqueNames, have_same_bytes, differ, finds_of_entry, has_inode, is_directory, any_kind}
+use Rattle.s3_rows.specs.Validity.{IsValid, HasUniqueNames, have_same_bytes, differ, finds_of_entry}
 use Rattle.row_lemmas.proofs.Tests.{find_passes, list_any_from_find, list_any_weaker, equal_from_is_eq, list_any-find, false_from_not}
 use Rattle.row_lemmas.proofs.Keyed.RowAt.{row_at_from_find}
 use Rattle.ref_counts.proofs.Named.{has_bytes}
 use Rattle.ref_counts.proofs.Told.{IfTold-weaker, IfTold-weaker2, IfTold-same}
-use Rattle.tree_rows.proofs.Listed.{is_entry}
+use Rattle.tree_rows.proofs.Listed.{is_entry, name_there}
 use Rattle.dir_ops.specs.Entries.{is_taken}
 
 -- ---- tests
@@ -88,9 +88,6 @@ like bytes x y one two =
 
 turned : (a b : List ℕ) → IsTrue (is_eq (bytes_cmp a b)) → IsTrue (is_eq (bytes_cmp b a))
 turned a b same = ap is_eq (tied_back nat_list_cmp_total a b (equal_from_is_eq (bytes_cmp a b) same))
-
-name_there : (t : Tables) (c : Content) → IsTrue (finds_of_entry t c) → IsTrue (is_some (name_at t c.name_id))
-name_there t c finds = (and_parts (has_inode is_directory t c.parent) (is_some (name_at t c.name_id)) (and_parts (has_inode is_directory t c.parent && is_some (name_at t c.name_id)) (has_inode any_kind t c.inode) finds).0).1
 
 -- an entry has a name of given bytes where its name's row does
 named_so : (t : Tables) (bytes : List ℕ) (c : Content) (found : Option Name) → name_at t c.name_id ≡ found → IsTrue (is_some found)

@@ -22,7 +22,6 @@ use Rattle.row_lemmas.proofs.Tests.{list_all_weaker, find_passes_all, equal_from
 use Rattle.row_lemmas.proofs.Sums.{count_by_none}
 use Rattle.row_lemmas.proofs.Keyed.Put.{row_at-put, list_all-put}
 use Rattle.row_lemmas.proofs.Keyed.Count.{count_by-put_new}
-use Rattle.row_lemmas.proofs.Tables.{pair_cmp_total}
 use Rattle.tree_rows.proofs.Listed.{is_entry}
 use Rattle.tree_rows.proofs.Whole.{number_of}
 use Rattle.entry_rows.proofs.NameUsed.{bytes_of_row, counts_after, NameIsUsed, below_apart}

@@ -1,5 +1,5 @@
 -- What one row more, and one changed row, make of the tree that tables represent, where other tables change too.
-use Rattle.std.proofs.Common.{◌≡◌, ℕ, ◌+◌, List, [], ◌∷◌, map, Bool, true, false, cond, Option, Some, refl, sym, ap, ◌∙◌}
+use Rattle.std.proofs.Common.{◌≡◌, ℕ, ◌+◌, List, [], ◌∷◌, map, Bool, false, cond, Option, Some, refl, sym, ap, ◌∙◌}
 use Rattle.std.specs.Prelude.{IsTrue, option_map, unwrap_or}
 use Rattle.std.specs.List.{list_all}
 use Rattle.std.specs.Map.{set_value}
@@ -21,7 +21,7 @@ use Rattle.row_lemmas.proofs.Keyed.RowAt.{row_at_none_found}
 use Rattle.row_lemmas.proofs.Keyed.Put.{map-put_entry, map-insert_entry}
 use Rattle.tree_rows.specs.Shapes.{NodeShape, TreeShape, shape_of_node, shape_of_tree, shape_of_tables, node_of_row, Represents}
 use Rattle.tree_rows.proofs.Shaped.{found_alike}
-use Rattle.tree_rows.proofs.Replaced.{node_of}
+use Rattle.tree_rows.proofs.Replaced.{node_of, shaped-set}
 
 -- a node with its number, in shape, and the shape of a row
 abbrev pub shaped : ℕ × Node → ℕ × NodeShape
@@ -50,16 +50,6 @@ added_represents t whole p q new node handle same made draws number shape =
     λ i. record { block_size = (draws.0 ∙ size) i; next_inode = (draws.1 ∙ ap (λ n. n + 1) next) i; nodes = nodes i }
 
 -- ---- one row changed
-
--- a new value for a key, before and after what is made of the values
-shaped-set : (test : ℕ → Bool) (es : List (ℕ × Node)) (w : Node) → map shaped (set_value test es w) ≡ set_value test (map shaped es) (shape_of_node w)
-shaped-set test [] w = refl
-shaped-set test (e ∷ es) w = by_case (shaped-set test es w) (test e.0)
-  where
-    by_case : map shaped (set_value test es w) ≡ set_value test (map shaped es) (shape_of_node w) → (b : Bool)
-        → map shaped (cond b ((e.0, w) ∷ es) (e ∷ set_value test es w)) ≡ cond b ((e.0, shape_of_node w) ∷ map shaped es) (shaped e ∷ set_value test (map shaped es) (shape_of_node w))
-    by_case others true = refl
-    by_case others false = ap (λ xs. shaped e ∷ xs) others
 
 module _ (t u : Tables) (new : Inode) (same : (x : Inode) → is_eq (nat_cmp new.id x.id) ≡ false → node_of_row u x ≡ node_of_row t x) where
   same_all : (rows : List Inode) → IsTrue (list_all (is_past by_inode new.id) rows) → map (row_shape u) rows ≡ map (row_shape t) rows

@@ -1,12 +1,11 @@
 -- How many nodes, entries and bytes of regular files the tree of valid tables has.
-use Rattle.std.proofs.Common.{◌≡◌, ℕ, ◌+◌, List, [], ◌∷◌, length, Bool, true, false, cond, Option, None, Some, refl, sym, ap, ◌∙◌, subst, arith, ltb-true, eqb-true, eq-eqb}
-use Rattle.std.specs.Prelude.{IsTrue, not, ◌&&◌, ◌||◌, ◌==◌, nat_lt, is_some, count_by, sum_by, filter, map, option_map, unwrap_or}
-use Rattle.std.specs.List.{list_all, list_any, filter_map, AllByRecursion}
+use Rattle.std.proofs.Common.{◌≡◌, ℕ, List, [], ◌∷◌, length, Bool, true, false, cond, Option, None, Some, refl, sym, ap, ◌∙◌, subst, eqb-true}
+use Rattle.std.specs.Prelude.{IsTrue, not, ◌==◌, is_some, count_by, sum_by, filter, map, option_map, unwrap_or}
+use Rattle.std.specs.List.{list_all, AllByRecursion}
 use Rattle.std.proofs.lemmas.List.{length-map}
-use Rattle.std.proofs.lemmas.List.Sums.{sum_by-cons}
+use Rattle.std.proofs.lemmas.List.Sums.{length-filter}
 use Rattle.std.proofs.lemmas.Cmp.{nat_list_cmp_total}
 use Rattle.std.specs.Cmp.{nat_cmp_total}
-use Rattle.std.specs.declared.cmp.Ordering.TheVariants.{Less, Equal, Greater}
 use Rattle.std.specs.Ordering.{nat_cmp, is_eq}
 use Rattle.s3_base.specs.declared.node_kind.Kind.{Kind}
 use Rattle.s3_base.specs.declared.node_kind.Kind.TheVariants as kinds
@@ -18,14 +17,14 @@ use Rattle.plain_tree.specs.Attributes.{at_most_u64, entries_in, bytes_in, entry
 use Rattle.s3_rows.specs.declared.lists.NamedEntry.{NamedEntry}
 use Rattle.s3_rows.specs.declared.table_rows.Row.TheVariants as rows
 use Rattle.s3_rows.specs.declared.table_rows.TableName.TheVariants as tables
-use Rattle.s3_rows.specs.Rows.{Inode, Name, Content}
-use Rattle.s3_rows.specs.Keyed.{has_key, rises, sorted_by}
+use Rattle.s3_rows.specs.Rows.{Inode, Content}
+use Rattle.s3_rows.specs.Keyed.{rises, sorted_by}
 use Rattle.s3_rows.specs.Tables.{Tables, by_inode}
-use Rattle.s3_rows.specs.Selections.{inode_at, name_at, bytes_cmp, bytes_of_name, with_entry_name, named_entries, by_entry_name, rows_of}
+use Rattle.s3_rows.specs.Selections.{inode_at, named_entries, by_entry_name, rows_of}
 use Rattle.s3_rows.specs.Validity.{IsValid, finds_of_entry, has_inode, is_directory, is_regular, any_kind, have_one_name, differ}
 use Rattle.tree_rows.specs.Shapes as shapes
 use Rattle.tree_rows.specs.Shapes.{ContentShape, NodeShape, TreeShape, shape_of_content, shape_of_node, node_of_row, Represents}
-use Rattle.tree_rows.proofs.Listed.{named, is_in}
+use Rattle.tree_rows.proofs.Listed.{named, is_in, filter_map-with_entry_name, differ-named}
 use Rattle.tree_rows.proofs.Whole.{content_of_kind}
 use Rattle.ref_counts.specs.Plans.{IsPlanOf}
 use Rattle.inode_ops.specs.declared.statfs.Tally.{Tally}
@@ -35,7 +34,7 @@ use Rattle.inode_ops.specs.Answers.{answer_plan}
 use Rattle.op_frames.specs.declared.reply.Reply.{Reply}
 use Rattle.s3_base.specs.declared.errors.Errno.{Errno}
 use Rattle.std.specs.Prelude.{Result, Ok}
-use Rattle.std.proofs.lemmas.Bool.{and_from, and_parts}
+use Rattle.std.proofs.lemmas.Bool.{and_parts}
 use Rattle.row_lemmas.proofs.Tests.{list_all_weaker, false_from_not, is_eq-nat_cmp}
 use Rattle.row_lemmas.proofs.Sums.{sum_by-map, sum_by_agree, sum_by_comm, count_by_none, count_by_true}
 use Rattle.row_lemmas.proofs.Keyed.RowAt.{row_at_own}
@@ -104,73 +103,6 @@ module _ (t : Tables) (whole : Tree) (same : Represents t whole) where
 abbrev always : {X : Type 0} → X → Bool
 always x = true
 
-with_name : (c : Content) (found : Option Name) → IsTrue (is_some found)
-    → option_map (λ (n : Name). let e : NamedEntry = record { row = c; name = n.name } in e) found ≡ Some (record { row = c; name = unwrap_or (option_map (λ r. r.name) found) [] })
-with_name c None there = absurd (cc there)
-with_name c (Some n) there = refl
-
-name_there : (t : Tables) (c : Content) → IsTrue (finds_of_entry t c) → IsTrue (is_some (name_at t c.name_id))
-name_there t c finds = (and_parts (has_inode is_directory t c.parent) (is_some (name_at t c.name_id)) (and_parts (has_inode is_directory t c.parent && is_some (name_at t c.name_id)) (has_inode any_kind t c.inode) finds).0).1
-
--- the rows that a directory is listed with are its rows with their names
-listed : (t : Tables) (parent : ℕ) (cs : List Content) → IsTrue (list_all (finds_of_entry t) cs) → filter_map (with_entry_name t) (filter (is_in parent) cs) ≡ map (named t) (filter (is_in parent) cs)
-listed t parent [] finds = refl
-listed t parent (c ∷ cs) finds =
-    by_case (listed t parent cs (and_parts (finds_of_entry t c) (list_all (finds_of_entry t) cs) finds).1) (with_name c (name_at t c.name_id) (name_there t c (and_parts (finds_of_entry t c) (list_all (finds_of_entry t) cs) finds).0)) (is_in parent c)
-  where
-    by_case : filter_map (with_entry_name t) (filter (is_in parent) cs) ≡ map (named t) (filter (is_in parent) cs) → with_entry_name t c ≡ Some (named t c) → (b : Bool)
-        → filter_map (with_entry_name t) (cond b (c ∷ filter (is_in parent) cs) (filter (is_in parent) cs)) ≡ map (named t) (cond b (c ∷ filter (is_in parent) cs) (filter (is_in parent) cs))
-    by_case others own true = rw (own, filter_map) (ap (λ es. named t c ∷ es) others)
-    by_case others own false = others
-
--- none of a directory's rows is like a row that no other is like
-none_alike : (t : Tables) (parent : ℕ) (c : Content) (cs : List Content) → c.parent ≡ parent → list_any (have_one_name t c) cs ≡ false
-    → list_any (has_key by_entry_name (bytes_of_name t c.name_id)) (map (named t) (filter (is_in parent) cs)) ≡ false
-none_alike t parent c [] here none = refl
-none_alike t parent c (x ∷ xs) here none = by_case (none_alike t parent c xs here) (is_in parent x) refl none
-  where
-    text : List ℕ
-    text = bytes_of_name t c.name_id
-
-    by_case : (list_any (have_one_name t c) xs ≡ false → list_any (has_key by_entry_name text) (map (named t) (filter (is_in parent) xs)) ≡ false) → (b : Bool) → is_in parent x ≡ b → list_any (have_one_name t c) (x ∷ xs) ≡ false
-        → list_any (has_key by_entry_name text) (map (named t) (cond b (x ∷ filter (is_in parent) xs) (filter (is_in parent) xs))) ≡ false
-    by_case others true is all = own (is_eq (bytes_cmp text (bytes_of_name t x.name_id))) (list_any (have_one_name t c) xs) refl (ap (λ b. (b && is_eq (bytes_cmp text (bytes_of_name t x.name_id))) || list_any (have_one_name t c) xs) (sym (eq-eqb c.parent x.parent (here ∙ sym (eqb-true x.parent parent is)))) ∙ all)
-      where
-        own : (d e : Bool) → list_any (have_one_name t c) xs ≡ e → ((true && d) || e) ≡ false → (d || list_any (has_key by_entry_name text) (map (named t) (filter (is_in parent) xs))) ≡ false
-        own true e rest clash = absurd (cc clash)
-        own false e rest clash = others (rest ∙ clash)
-    by_case others false is all = others (rest (have_one_name t c x) (list_any (have_one_name t c) xs) all)
-      where
-        rest : (d e : Bool) → (d || e) ≡ false → e ≡ false
-        rest true e clash = absurd (cc clash)
-        rest false e same = same
-
--- no two of them have one name
-unlike_listed : (t : Tables) (parent : ℕ) (cs : List Content) → IsTrue (differ (have_one_name t) cs) → IsTrue (differ (λ a. has_key by_entry_name (by_entry_name.key a)) (map (named t) (filter (is_in parent) cs)))
-unlike_listed t parent [] unlike = refl
-unlike_listed t parent (c ∷ cs) unlike = by_case (unlike_listed t parent cs (and_parts (not (list_any (have_one_name t c) cs)) (differ (have_one_name t) cs) unlike).1) (is_in parent c) refl
-  where
-    own : list_any (have_one_name t c) cs ≡ false
-    own = false_from_not (list_any (have_one_name t c) cs) (and_parts (not (list_any (have_one_name t c) cs)) (differ (have_one_name t) cs) unlike).0
-
-    by_case : IsTrue (differ (λ a. has_key by_entry_name (by_entry_name.key a)) (map (named t) (filter (is_in parent) cs))) → (b : Bool) → is_in parent c ≡ b
-        → IsTrue (differ (λ a. has_key by_entry_name (by_entry_name.key a)) (map (named t) (cond b (c ∷ filter (is_in parent) cs) (filter (is_in parent) cs))))
-    by_case others true is =
-        and_from (not (list_any (has_key by_entry_name (bytes_of_name t c.name_id)) (map (named t) (filter (is_in parent) cs)))) (differ (λ a. has_key by_entry_name (by_entry_name.key a)) (map (named t) (filter (is_in parent) cs)))
-        (ap not (none_alike t parent c cs (eqb-true c.parent parent is) own)) others
-    by_case others false is = others
-
--- how many of the rows are a directory's
-in_directory : (parent : ℕ) (cs : List Content) → length (filter (is_in parent) cs) ≡ count_by (is_in parent) cs
-in_directory parent [] = refl
-in_directory parent (c ∷ cs) =
-    let one : Content → ℕ = λ x. cond (is_in parent x) 1 0 in
-    by_case (in_directory parent cs) (is_in parent c) ∙ sym (sum_by-cons one c cs)
-  where
-    by_case : length (filter (is_in parent) cs) ≡ count_by (is_in parent) cs → (b : Bool) → length (cond b (c ∷ filter (is_in parent) cs) (filter (is_in parent) cs)) ≡ cond b 1 0 + count_by (is_in parent) cs
-    by_case others true = omega (arith, others)
-    by_case others false = omega (arith, others)
-
 module _ (t : Tables) (finds : IsTrue (list_all (finds_of_entry t) t.contents)) (unlike : IsTrue (differ (have_one_name t) t.contents)) (rise : IsTrue (rises by_inode t.inodes)) where
   -- a directory is listed with as many entries as it has rows
   entries_listed : (parent : ℕ) → length (shapes.entries_in t parent) ≡ count_by (is_in parent) t.contents
@@ -178,9 +110,9 @@ module _ (t : Tables) (finds : IsTrue (list_all (finds_of_entry t) t.contents)) 
       let pair_of : NamedEntry → List ℕ × ℕ = λ e. (e.name, e.row.inode) in
       let found : List NamedEntry = map (named t) (filter (is_in parent) t.contents) in
       let any : NamedEntry → Bool = λ e. true in
-      length-map (named_entries t parent) pair_of ∙ ap (λ es. length (sorted_by by_entry_name es)) (listed t parent t.contents finds)
-      ∙ sym (count_by_true (sorted_by by_entry_name found)) ∙ count_by-sorted_by by_entry_name nat_list_cmp_total any found (unlike_listed t parent t.contents unlike) ∙ count_by_true found
-      ∙ length-map (filter (is_in parent) t.contents) (named t) ∙ in_directory parent t.contents
+      length-map (named_entries t parent) pair_of ∙ ap (λ es. length (sorted_by by_entry_name es)) (filter_map-with_entry_name t parent t.contents finds)
+      ∙ sym (count_by_true (sorted_by by_entry_name found)) ∙ count_by-sorted_by by_entry_name nat_list_cmp_total any found (differ-named t parent t.contents unlike) ∙ count_by_true found
+      ∙ length-map (filter (is_in parent) t.contents) (named t) ∙ length-filter (is_in parent) t.contents
 
   -- the parent of a row is a directory
   folder_of : (c : Content) → IsTrue (finds_of_entry t c) → IsTrue (has_inode is_directory t c.parent)

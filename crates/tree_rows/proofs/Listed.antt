@@ -39,7 +39,7 @@ with_name : (c : Content) (found : Option Name) → IsTrue (is_some found)
 with_name c None there = absurd (cc there)
 with_name c (Some n) there = refl
 
-name_there : (t : Tables) (c : Content) → IsTrue (finds_of_entry t c) → IsTrue (is_some (name_at t c.name_id))
+pub name_there : (t : Tables) (c : Content) → IsTrue (finds_of_entry t c) → IsTrue (is_some (name_at t c.name_id))
 name_there t c finds = (and_parts (has_inode is_directory t c.parent) (is_some (name_at t c.name_id)) (and_parts (has_inode is_directory t c.parent && is_some (name_at t c.name_id)) (has_inode any_kind t c.inode) finds).0).1
 
 -- a choice between two options, through what is made of them
@@ -48,17 +48,17 @@ pulled f true x found = refl
 pulled f false x found = refl
 
 -- the rows that are sorted are those of the directory with their names
-listed : (t : Tables) (parent : ℕ) (cs : List Content) → IsTrue (list_all (finds_of_entry t) cs) → filter_map (with_entry_name t) (filter (is_in parent) cs) ≡ map (named t) (filter (is_in parent) cs)
-listed t parent [] finds = refl
-listed t parent (c ∷ cs) finds =
-    by_case (listed t parent cs (and_parts (finds_of_entry t c) (list_all (finds_of_entry t) cs) finds).1) (with_name c (name_at t c.name_id) (name_there t c (and_parts (finds_of_entry t c) (list_all (finds_of_entry t) cs) finds).0)) (is_in parent c)
+pub filter_map-with_entry_name : (t : Tables) (parent : ℕ) (cs : List Content) → IsTrue (list_all (finds_of_entry t) cs) → filter_map (with_entry_name t) (filter (is_in parent) cs) ≡ map (named t) (filter (is_in parent) cs)
+filter_map-with_entry_name t parent [] finds = refl
+filter_map-with_entry_name t parent (c ∷ cs) finds =
+    by_case (filter_map-with_entry_name t parent cs (and_parts (finds_of_entry t c) (list_all (finds_of_entry t) cs) finds).1) (with_name c (name_at t c.name_id) (name_there t c (and_parts (finds_of_entry t c) (list_all (finds_of_entry t) cs) finds).0)) (is_in parent c)
   where
     by_case : filter_map (with_entry_name t) (filter (is_in parent) cs) ≡ map (named t) (filter (is_in parent) cs) → with_entry_name t c ≡ Some (named t c) → (b : Bool)
         → filter_map (with_entry_name t) (cond b (c ∷ filter (is_in parent) cs) (filter (is_in parent) cs)) ≡ map (named t) (cond b (c ∷ filter (is_in parent) cs) (filter (is_in parent) cs))
     by_case others own true = rw (own, filter_map) (ap (λ es. named t c ∷ es) others)
     by_case others own false = others
 
--- the (and_parts of them with).0 a name
+-- the first of them with a name
 found_listed : (t : Tables) (parent : ℕ) (name : List ℕ) (cs : List Content)
     → row_at by_entry_name name (map (named t) (filter (is_in parent) cs)) ≡ option_map (named t) (find (is_entry t parent name) cs)
 found_listed t parent name [] = refl
@@ -92,10 +92,10 @@ counted_listed t parent inode (c ∷ cs) = by_case (counted_listed t parent inod
         others ∙ sym (zero-add (count_by (names_inode parent inode) cs)) ∙ ap (λ b. cond (b && (c.inode == inode)) 1 0 + count_by (names_inode parent inode) cs) (sym is) ∙ sym (sum_by-cons of_row c cs)
 
 -- no two of them have one name
-unlike_listed : (t : Tables) (parent : ℕ) (cs : List Content) → IsTrue (differ (have_one_name t) cs)
+pub differ-named : (t : Tables) (parent : ℕ) (cs : List Content) → IsTrue (differ (have_one_name t) cs)
     → IsTrue (differ (λ a. has_key by_entry_name (by_entry_name.key a)) (map (named t) (filter (is_in parent) cs)))
-unlike_listed t parent [] unlike = refl
-unlike_listed t parent (c ∷ cs) unlike = by_case (unlike_listed t parent cs (and_parts (not (list_any (have_one_name t c) cs)) (differ (have_one_name t) cs) unlike).1) (is_in parent c) refl
+differ-named t parent [] unlike = refl
+differ-named t parent (c ∷ cs) unlike = by_case (differ-named t parent cs (and_parts (not (list_any (have_one_name t c) cs)) (differ (have_one_name t) cs) unlike).1) (is_in parent c) refl
   where
     own : list_any (have_one_name t c) cs ≡ false
     own = false_from_not (list_any (have_one_name t c) cs) (and_parts (not (list_any (have_one_name t c) cs)) (differ (have_one_name t) cs) unlike).0
@@ -135,7 +135,7 @@ unlike_listed t parent (c ∷ cs) unlike = by_case (unlike_listed t parent cs (a
 
 module _ (t : Tables) (finds : IsTrue (list_all (finds_of_entry t) t.contents)) where
   sorted_from : (parent : ℕ) → named_entries t parent ≡ sorted_by by_entry_name (map (named t) (filter (is_in parent) t.contents))
-  sorted_from parent = ap (sorted_by by_entry_name) (listed t parent t.contents finds)
+  sorted_from parent = ap (sorted_by by_entry_name) (filter_map-with_entry_name t parent t.contents finds)
 
   -- the entry that a directory is listed with under a name
   pub entry_in : (parent : ℕ) (name : List ℕ) → entry_of_shape (Directory (entries_in t parent)) name ≡ option_map (λ c. c.inode) (find (is_entry t parent name) t.contents)
@@ -159,4 +159,4 @@ module _ (t : Tables) (finds : IsTrue (list_all (finds_of_entry t) t.contents)) 
       let counts : NamedEntry → Bool = λ e. e.row.inode == inode in
       let rows : List NamedEntry = map (named t) (filter (is_in parent) t.contents) in
       sum_by-map one pair_of (named_entries t parent) ∙ ap (λ es. count_by counts es) (sorted_from parent)
-      ∙ count_by-sorted_by by_entry_name nat_list_cmp_total counts rows (unlike_listed t parent t.contents unlike) ∙ counted_listed t parent inode t.contents
+      ∙ count_by-sorted_by by_entry_name nat_list_cmp_total counts rows (differ-named t parent t.contents unlike) ∙ counted_listed t parent inode t.contents

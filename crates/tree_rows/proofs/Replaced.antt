@@ -28,7 +28,7 @@ abbrev row_shape : Tables → Inode → ℕ × NodeShape
 row_shape t r = (r.id, node_of_row t r)
 
 -- a new value for a key, before and after what is made of the values
-shaped-set : (test : ℕ → Bool) (es : List (ℕ × Node)) (w : Node) → map shaped (set_value test es w) ≡ set_value test (map shaped es) (shape_of_node w)
+pub shaped-set : (test : ℕ → Bool) (es : List (ℕ × Node)) (w : Node) → map shaped (set_value test es w) ≡ set_value test (map shaped es) (shape_of_node w)
 shaped-set test [] w = refl
 shaped-set test (e ∷ es) w = by_case (shaped-set test es w) (test e.0)
   where
