@@ -17,7 +17,8 @@ use Rattle.s3_rows.specs.Keyed.{has_key, pair_cmp, put}
 use Rattle.s3_rows.specs.Tables.{Tables, by_inode, by_entry}
 use Rattle.s3_rows.specs.Selections.{inode_at, name_at, block_at, entry_at, target_at, bytes_cmp, bytes_of_name}
 use Rattle.s3_rows.specs.Counts.{listed_inode_count, listed_name_count}
-use Rattle.s3_rows.specs.Validity.{IsValid, HasItsRows, HasExactCounts, root, is_directory, is_regular, is_link, any_kind, has_inode, counts_inode, counts_name, finds_of_entry, finds_of_inode_block, finds_of_attr, finds_target}
+use Rattle.s3_base.specs.Numbers.{root}
+use Rattle.s3_rows.specs.Validity.{IsValid, HasItsRows, HasExactCounts, is_directory, is_regular, is_link, any_kind, has_inode, counts_inode, counts_name, finds_of_entry, finds_of_inode_block, finds_of_attr, finds_target}
 use Rattle.row_lemmas.proofs.Tests.{list_all_weaker, find_passes_all, equal_from_is_eq, is_eq-nat_cmp, list_all_weaker_both, list_all_from_list_any, is_some-find_none}
 use Rattle.row_lemmas.proofs.Sums.{count_by_none}
 use Rattle.row_lemmas.proofs.Keyed.Put.{row_at-put, list_all-put}

@@ -13,7 +13,8 @@ use Rattle.s3_rows.specs.Keyed.{put}
 use Rattle.s3_rows.specs.Tables.{Tables, by_inode, by_entry}
 use Rattle.s3_rows.specs.Selections.{inode_at, target_at, bytes_cmp, bytes_of_name}
 use Rattle.s3_rows.specs.Counts.{listed_inode_count}
-use Rattle.s3_rows.specs.Validity.{IsValid, HasOneTree, HasDistinctBlocks, HasItsSizes, HasFreeNumbers, root, is_directory, has_inode, is_named, finds_of_entry, parent_of, leads_to_root, is_below_root, is_named_once, has_legal_name, have_one_name, lost_and_found, is_lost_and_found, is_no_lost_directory, is_number, has_its_size, is_in_file, differ}
+use Rattle.s3_base.specs.Numbers.{root}
+use Rattle.s3_rows.specs.Validity.{IsValid, HasOneTree, HasDistinctBlocks, HasItsSizes, HasFreeNumbers, is_directory, has_inode, is_named, finds_of_entry, parent_of, leads_to_root, is_below_root, is_named_once, has_legal_name, have_one_name, lost_and_found, is_lost_and_found, is_no_lost_directory, is_number, has_its_size, is_in_file, differ}
 use Rattle.row_lemmas.proofs.Tests.{list_all_weaker, find_passes, find_passes_all, list_any_from_find, find_from_list_any, list_all_weaker_both, list_all_from_list_any, differ_agree}
 use Rattle.row_lemmas.proofs.Keyed.Put.{rises-put, list_all-put, length-put_new, list_any-put_new, find-put_new, differ-put}
 use Rattle.row_lemmas.proofs.Tables.{pair_cmp_total}

@@ -7,7 +7,7 @@ ghost use Rattle.frame_fields.specs.Frames.{length_field};
 ghost use Rattle.frame_fields.specs.Unread.{rest_of};
 
 use crate::FrameFault;
-use s3_base::{ByteList, Kind};
+use s3_base::{ByteList, Kind, LIMIT};
 use std::alloc::Global;
 
 /// The longest data of a read or a write, in bytes.
@@ -15,9 +15,6 @@ pub const MAX_DATA: u32 = 131_072;
 
 /// The longest body of a frame, in bytes.
 pub const MAX_BODY: u32 = 262_144;
-
-/// One more than the last pass and the last time.
-pub const LIMIT: u64 = 1 << 62;
 
 /// Where a reader stands in a frame.
 #[derive(Clone, Copy, Debug)]

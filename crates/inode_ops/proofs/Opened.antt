@@ -14,7 +14,8 @@ use Rattle.op_frames.specs.declared.operation.Op.TheVariants as ops
 use Rattle.op_frames.specs.declared.reply.Reply.{Reply}
 use Rattle.op_frames.specs.declared.reply.Reply.TheVariants as replies
 use Rattle.plain_tree.specs.Tree as tree
-use Rattle.plain_tree.specs.Tree.{Node, Handle, Tree, root, node_at, own_handle, handle_of, without_node, without_handle}
+use Rattle.s3_base.specs.Numbers.{root}
+use Rattle.plain_tree.specs.Tree.{Node, Handle, Tree, node_at, own_handle, handle_of, without_node, without_handle}
 use Rattle.plain_tree.specs.Attributes.{names_in, attr_of}
 use Rattle.plain_tree.specs.Classes.{keeps_rows}
 use Rattle.plain_tree.specs.Entries.{entries_of, is_named, is_open, lives}

@@ -5,11 +5,8 @@ ghost use Rattle.plain_tree.specs.Checks.{fails_with, entry_check};
 ghost use Rattle.op_checks.specs.Checks.{Checks};
 ghost use Rattle.op_checks.specs.Rows.{row_check, directory_row_check, file_row_check, link_row_check, no_directory_row_check, lock_row_check, open_row_check, ids_row_check};
 
-use s3_base::{Errno, Kind};
+use s3_base::{Errno, Kind, LIMIT};
 use s3_rows::{InodeRow, Params};
-
-/// Inode numbers are below this.
-const LIMIT: u64 = 1 << 62;
 
 /// The row: ENOENT where there is none.
 pub fn check_node(found: Option<InodeRow>) -> Result<InodeRow, Errno>

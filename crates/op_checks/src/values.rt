@@ -6,7 +6,7 @@ ghost use Rattle.plain_tree.specs.Tree.{Tree};
 ghost use Rattle.plain_tree.specs.Checks.{name_check, attribute_name_check, target_check, mode_check, page_check, time_check, read_length_check, write_end_check, size_check, value_check, keep_check, root_check, cache_check};
 ghost use Rattle.op_checks.specs.Checks.{Checks};
 
-use s3_base::{ByteList, Errno};
+use s3_base::{ByteList, Errno, LIMIT};
 
 /// The longest name of an entry or an attribute, in bytes.
 const MAX_NAME: usize = 255;
@@ -19,9 +19,6 @@ const MODE_BITS: u16 = 0o7777;
 
 /// The most entries or names that one page has.
 const MAX_PAGE: u16 = 256;
-
-/// Times are below this.
-const TIME_LIMIT: u64 = 1 << 62;
 
 /// The most bytes that one read gives.
 const MAX_READ: u32 = 131_072;
@@ -124,7 +121,7 @@ pub fn check_page(max: u16) -> Result<(), Errno>
 pub fn check_time(time: u64) -> Result<(), Errno>
     ensures { Checks result (time_check time) }
 {
-    if time >= TIME_LIMIT {
+    if time >= LIMIT {
         return Err(Errno::EINVAL);
     }
     Ok(())

@@ -3,7 +3,8 @@ use Rattle.std.specs.Prelude.{ℕ, ◌-◌, ◌^◌, ◌==◌, min, length, sum_
 use Rattle.op_frames.specs.declared.reply.Attr.{Attr}
 use Rattle.s3_base.specs.declared.node_kind.Kind.{Kind}
 use Rattle.s3_base.specs.declared.node_kind.Kind.TheVariants as kinds
-use Rattle.plain_tree.specs.Tree.{Content, Regular, Directory, Link, Node, Tree, root}
+use Rattle.s3_base.specs.Numbers.{root}
+use Rattle.plain_tree.specs.Tree.{Content, Regular, Directory, Link, Node, Tree}
 
 abbrev pub kind_of : Content → Kind
 kind_of (Regular bytes) = kinds.Regular

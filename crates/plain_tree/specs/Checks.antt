@@ -6,7 +6,8 @@ use Rattle.s3_base.specs.Errors.{eperm, enoent, e2big, ebadf, eexist, enotdir, e
 use Rattle.s3_base.specs.Names.{is_forbidden_name}
 use Rattle.op_frames.specs.declared.operation.SetFlag.{SetFlag}
 use Rattle.op_frames.specs.declared.operation.SetFlag.TheVariants as flags
-use Rattle.plain_tree.specs.Tree.{Regular, Directory, Link, Node, Tree, root, lost_and_found, entry_of}
+use Rattle.s3_base.specs.Numbers.{root}
+use Rattle.plain_tree.specs.Tree.{Regular, Directory, Link, Node, Tree, lost_and_found, entry_of}
 use Rattle.plain_tree.specs.Entries.{entries_of, is_directory}
 
 -- fails with this error where the test is true

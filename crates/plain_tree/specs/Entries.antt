@@ -5,7 +5,8 @@ use Rattle.std.specs.Map.{remove_entry}
 use Rattle.std.specs.Ordering.{nat_cmp}
 use Rattle.std.specs.BTreeMap.{is_at}
 use Rattle.std.specs.Cmp.Lexicographic.{slice_cmp}
-use Rattle.plain_tree.specs.Tree.{Content, Regular, Directory, Link, Node, Tree, root, node_at, entry_of, without_node, change_node, named, touched}
+use Rattle.s3_base.specs.Numbers.{root}
+use Rattle.plain_tree.specs.Tree.{Content, Regular, Directory, Link, Node, Tree, node_at, entry_of, without_node, change_node, named, touched}
 
 -- the entries of a directory, in the order of their names
 abbrev pub entries_of : Content → List (List ℕ × ℕ)

@@ -1,5 +1,6 @@
 -- The plain tree: nodes by their inode numbers, and the handles that are open.
 use Rattle.std.specs.Prelude.{ℕ, ◌+◌, ◌==◌, List, [], ◌∷◌, Bool, false, Option, None, Some, codes, if◌then◌else◌}
+use Rattle.s3_base.specs.Numbers.{root}
 use Rattle.std.specs.Map.{lookup, remove_entry, set_value}
 use Rattle.std.specs.Ordering.{nat_cmp}
 use Rattle.std.specs.BTreeMap.{insert_entry, is_at}
@@ -34,10 +35,6 @@ pub record Tree : Type 0 where
   pub nodes : List (ℕ × Node)
   pub next_handle : ℕ
   pub handles : List (ℕ × Handle)
-
--- the root's inode number
-abbrev pub root : ℕ
-root = 1
 
 abbrev pub lost_and_found : List ℕ
 lost_and_found = codes "lost+found"

@@ -1,6 +1,7 @@
 -- Well-formed trees: what holds of every tree that was made and then changed by operations.
 use Rattle.std.specs.Prelude.{◌≡◌, ◌≢◌, ℕ, zero, suc, ◌^◌, ◌<◌, ◌≤◌, List, [], ◌∷◌, length, sum_by, Bool, false, true, IsTrue, IsSome, Option, None, Some}
-use Rattle.plain_tree.specs.Tree.{Content, Regular, Directory, Link, Node, Tree, root, lost_and_found, node_at}
+use Rattle.s3_base.specs.Numbers.{root}
+use Rattle.plain_tree.specs.Tree.{Content, Regular, Directory, Link, Node, Tree, lost_and_found, node_at}
 use Rattle.plain_tree.specs.Attributes.{names_in}
 use Rattle.plain_tree.specs.Checks.{name_check, attribute_name_check, value_check, target_check}
 use Rattle.plain_tree.specs.Names.{NamesInOrder, AttributesInOrder}

@@ -3,12 +3,10 @@ ghost use Rattle.std.specs.Prelude.{◌≡◌, ◌<◌, ◌^◌, ℕ, nat_le, On
 ghost use Rattle.plain_tree.specs.Tree as tree;
 ghost use Rattle.ref_counts.specs.Handles.{OpenHandles, AllBelow, no_handles, inode_open, opened, closed, closed_all};
 
+use s3_base::LIMIT;
 use std::alloc::{AllocError, Global};
 use std::collections::BTreeMap;
 use std::marker::Model;
-
-/// One more than the last handle number.
-const LIMIT: u64 = 1 << 62;
 
 /// An open file: the inode, and the pass that opened it.
 #[derive(Clone, Copy, Debug, PartialEq, Eq)]

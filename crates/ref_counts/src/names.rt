@@ -9,12 +9,9 @@ ghost use Rattle.s3_rows.specs.Validity.{HasUniqueNames};
 ghost use Rattle.s3_rows.specs.Told.{IfTold, has_failed};
 ghost use Rattle.ref_counts.specs.Names.{raised, raised_row, new_row, StaysUnique, other_than, after_put, IsRaised};
 
-use s3_base::ByteList;
+use s3_base::{ByteList, LIMIT};
 use s3_rows::{Batch, Change, Keeper, KeeperFault, NameRow, Params};
 use std::alloc::AllocError;
-
-/// Counts and numbers are below this.
-const LIMIT: u64 = 1 << 62;
 
 /// The row, unless it has this id.
 fn unless_id(found: Option<NameRow>, id: u64) -> Option<NameRow>

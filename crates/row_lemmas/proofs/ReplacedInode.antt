@@ -14,7 +14,8 @@ use Rattle.s3_rows.specs.Tables.{Tables, by_inode}
 use Rattle.s3_rows.specs.Batches.{after_change}
 use Rattle.s3_rows.specs.Selections.{inode_at, name_at, block_at, target_at, bytes_of_name, bytes_cmp}
 use Rattle.s3_rows.specs.Counts.{listed_inode_count}
-use Rattle.s3_rows.specs.Validity.{IsValid, HasItsRows, HasOneTree, HasItsSizes, root, is_directory, is_regular, is_link, any_kind, has_inode, is_named, counts_inode, finds_of_entry, finds_of_inode_block, finds_of_attr, finds_target, parent_of, leads_to_root, is_below_root, is_named_once, lost_and_found, is_lost_and_found, is_no_lost_directory, is_number, has_its_size, is_in_file}
+use Rattle.s3_base.specs.Numbers.{root}
+use Rattle.s3_rows.specs.Validity.{IsValid, HasItsRows, HasOneTree, HasItsSizes, is_directory, is_regular, is_link, any_kind, has_inode, is_named, counts_inode, finds_of_entry, finds_of_inode_block, finds_of_attr, finds_target, parent_of, leads_to_root, is_below_root, is_named_once, lost_and_found, is_lost_and_found, is_no_lost_directory, is_number, has_its_size, is_in_file}
 use Rattle.row_lemmas.proofs.Tests.{list_all_weaker, find_passes, find_passes_all, list_any_weaker, equal_from_is_eq}
 use Rattle.row_lemmas.proofs.Keyed.Put.{list_all-put, rises-put, row_at-put, length-put_there}
 

@@ -4,6 +4,7 @@
 mod byte_list;
 mod clock;
 mod errors;
+mod limits;
 mod memory;
 mod node_kind;
 mod sequence;
@@ -15,6 +16,7 @@ mod tests;
 pub use byte_list::ByteList;
 pub use clock::{Clock, FixedClock};
 pub use errors::{Errno, Failed};
+pub use limits::LIMIT;
 pub use memory::{MemSink, MemSource};
 pub use node_kind::Kind;
 pub use sequence::{NumberList, Sequence, WordList};

@@ -1,5 +1,6 @@
 -- Valid tables: one tree of names, exact counts, and every number that is named there.
 use Rattle.std.specs.Prelude.{◌≡◌, ℕ, zero, suc, ◌*◌, ◌==◌, List, [], ◌∷◌, length, Bool, true, false, not, ◌&&◌, ◌||◌, nat_lt, nat_le, IsTrue, Option, None, Some, is_some, option_map, option_and_then, find, codes}
+use Rattle.s3_base.specs.Numbers.{root}
 use Rattle.std.specs.List.{list_all, list_any}
 use Rattle.std.specs.Ordering.{is_eq}
 use Rattle.s3_base.specs.Names.{is_forbidden_name}
@@ -9,10 +10,6 @@ use Rattle.s3_rows.specs.Rows.{Inode, Name, Content, InodeBlock, Block, Object, 
 use Rattle.s3_rows.specs.Tables.{Tables, IsOrdered}
 use Rattle.s3_rows.specs.Selections.{inode_at, name_at, block_at, object_at, target_at, bytes_cmp, bytes_of_name}
 use Rattle.s3_rows.specs.Counts.{listed_inode_count, listed_name_count, listed_block_count, listed_object_count}
-
--- the root's inode number
-abbrev pub root : ℕ
-root = 1
 
 -- ---- words
 

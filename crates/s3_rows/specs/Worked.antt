@@ -4,7 +4,8 @@ use Rattle.s3_base.specs.declared.node_kind.Kind.TheVariants as kinds
 use Rattle.std.specs.List.{list_all, list_any}
 use Rattle.s3_rows.specs.Rows.{Inode, Parameters}
 use Rattle.s3_rows.specs.Tables.{Tables, IsOrdered}
-use Rattle.s3_rows.specs.Validity.{HasItsRows, HasDistinctBlocks, HasItsSizes, HasFreeNumbers, counts_name, counts_block, counts_object, has_inode, is_directory, is_named, is_named_once, is_no_lost_directory, has_legal_name, have_one_name, is_lost_and_found, differ, root}
+use Rattle.s3_base.specs.Numbers.{root}
+use Rattle.s3_rows.specs.Validity.{HasItsRows, HasDistinctBlocks, HasItsSizes, HasFreeNumbers, counts_name, counts_block, counts_object, has_inode, is_directory, is_named, is_named_once, is_no_lost_directory, has_legal_name, have_one_name, is_lost_and_found, differ}
 use Rattle.s3_rows.specs.Made.{made_tables, made_parameters, made_directory}
 
 -- a made file system with an object that no block has and that was never uploaded

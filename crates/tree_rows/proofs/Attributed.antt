@@ -6,7 +6,8 @@ use Rattle.s3_base.specs.declared.node_kind.Kind.TheVariants as kinds
 use Rattle.op_frames.specs.declared.reply.Reply.{Reply}
 use Rattle.op_frames.specs.declared.reply.Reply.TheVariants as replies
 use Rattle.plain_tree.specs.Tree as tree
-use Rattle.plain_tree.specs.Tree.{Node, Tree, root, node_at}
+use Rattle.s3_base.specs.Numbers.{root}
+use Rattle.plain_tree.specs.Tree.{Node, Tree, node_at}
 use Rattle.plain_tree.specs.Attributes.{kind_of, size_of, link_count, attr_of}
 use Rattle.plain_tree.specs.Operations.{attr_reply}
 use Rattle.plain_tree.specs.WellFormed.{entries_naming}

@@ -10,7 +10,8 @@ use Rattle.plain_tree.specs.Tree as tree
 use Rattle.s3_rows.specs.Rows.{Inode}
 use Rattle.s3_rows.specs.Tables.{Tables}
 use Rattle.tree_rows.specs.Shapes.{ContentShape, Regular, Directory, Link, NodeShape, shape_of_content, shape_of_node, shape_of_tables, entries_in, target_in, node_of_row, Represents}
-use Rattle.tree_rows.specs.Contents.{Contents, padded, stored_at, blocks_from, bytes_in, node_in, tree_of}
+use Rattle.plain_tree.specs.Files.{padded}
+use Rattle.tree_rows.specs.Contents.{Contents, stored_at, blocks_from, bytes_in, node_in, tree_of}
 
 padded_length : (size : ℕ) (bytes : List ℕ) → size ≤ length (padded size bytes)
 padded_length size bytes =

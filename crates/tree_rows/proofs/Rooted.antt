@@ -20,7 +20,8 @@ use Rattle.s3_rows.specs.Keyed.{has_key}
 use Rattle.s3_rows.specs.Tables.{Tables, by_inode}
 use Rattle.s3_rows.specs.Selections.{inode_at, bytes_cmp, bytes_of_name}
 use Rattle.s3_rows.specs.Counts.{listed_inode_count}
-use Rattle.s3_rows.specs.Validity.{IsValid, finds_of_entry, has_inode, is_directory, any_kind, have_one_name, differ, has_legal_name, counts_inode, is_named_once, is_below_root, leads_to_root, parent_of, is_lost_and_found, lost_and_found, root}
+use Rattle.s3_base.specs.Numbers.{root}
+use Rattle.s3_rows.specs.Validity.{IsValid, finds_of_entry, has_inode, is_directory, any_kind, have_one_name, differ, has_legal_name, counts_inode, is_named_once, is_below_root, leads_to_root, parent_of, is_lost_and_found, lost_and_found}
 use Rattle.row_lemmas.proofs.Tests.{find_passes, find_passes_all, list_any_from_find, find_from_list_any, list_all_from_list_any, false_from_not, equal_from_is_eq}
 use Rattle.row_lemmas.proofs.Sums.{count_by_none, list_any_from_count_by}
 use Rattle.tree_rows.specs.Shapes.{Represents}

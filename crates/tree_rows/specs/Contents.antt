@@ -1,11 +1,12 @@
 -- The bytes of files, from the blocks that rows name.
-use Rattle.std.specs.Prelude.{◌≡◌, ℕ, zero, suc, ◌+◌, ◌-◌, ◌/◌, List, [], ◌∷◌, ◌++◌, length, take, map, replicate, Option, Some, option_and_then, option_map, unwrap_or}
+use Rattle.std.specs.Prelude.{◌≡◌, ℕ, zero, suc, ◌+◌, ◌-◌, ◌/◌, List, [], ◌∷◌, ◌++◌, length, take, map, Option, Some, option_and_then, option_map, unwrap_or}
 use Rattle.std.specs.Map.{lookup}
 use Rattle.std.specs.Ordering.{nat_cmp}
 use Rattle.std.specs.BTreeMap.{is_at}
 use Rattle.std.specs.Cmp.Lexicographic.{slice_cmp}
 use Rattle.s3_base.specs.declared.node_kind.Kind.TheVariants as kinds
 use Rattle.plain_tree.specs.Tree as tree
+use Rattle.plain_tree.specs.Files.{padded}
 use Rattle.s3_rows.specs.Rows.{Inode, Block}
 use Rattle.s3_rows.specs.Tables.{Tables}
 use Rattle.s3_rows.specs.Selections.{inode_block_at, block_at}
@@ -31,10 +32,6 @@ HaveBytes contents (r ∷ rs) = (option_map length (bytes_of contents r.digest.0
 
 abbrev pub Fits : (List ℕ → List ℕ) → Contents → Tables → Type 0
 Fits digest_of contents t = AreDigests digest_of contents × HaveBytes contents t.blocks
-
--- with zeros up to a length
-abbrev pub padded : ℕ → List ℕ → List ℕ
-padded size bytes = bytes ++ replicate (size - length bytes) 0
 
 -- the stored form of a block of a file; nothing where no row names one
 abbrev pub stored_at : Contents → Tables → ℕ → ℕ → List ℕ

@@ -4,7 +4,8 @@ ghost use Rattle.plain_tree.specs.WellFormed.{HasOneTree, entries_naming};
 ghost use Rattle.s3_rows.specs.Rows.{Inode};
 ghost use Rattle.s3_rows.specs.Tables.{Tables};
 ghost use Rattle.s3_rows.specs.Selections.{inode_at};
-ghost use Rattle.s3_rows.specs.Validity.{IsValid, root};
+ghost use Rattle.s3_base.specs.Numbers.{root};
+ghost use Rattle.s3_rows.specs.Validity.{IsValid};
 ghost use Rattle.tree_rows.specs.Shapes.{Represents};
 
 /// A tree that valid tables represent has one tree of names from the root: each other directory is named by exactly one entry

@@ -10,7 +10,8 @@ use Rattle.s3_rows.specs.Keyed.{has_key}
 use Rattle.s3_rows.specs.Tables.{Tables, by_inode}
 use Rattle.s3_rows.specs.Selections.{inode_at}
 use Rattle.s3_rows.specs.Told.{Told, one_more, with_batch}
-use Rattle.s3_rows.specs.Validity.{IsValid, root, is_directory, is_regular, parent_of, leads_to_root, is_below_root}
+use Rattle.s3_base.specs.Numbers.{root}
+use Rattle.s3_rows.specs.Validity.{IsValid, is_directory, is_regular, parent_of, leads_to_root, is_below_root}
 use Rattle.row_lemmas.proofs.Tests.{list_all_weaker, find_passes_all}
 use Rattle.tree_rows.specs.Shapes.{shape_of_tables, Represents}
 use Rattle.ref_counts.specs.Handles.{no_handles}

@@ -17,7 +17,8 @@ use Rattle.plain_tree.specs.Files.{inode_of}
 use Rattle.plain_tree.specs.Numbers.{InOrder}
 use Rattle.plain_tree.specs.Operations.{checks, reply_to, tree_after, new_file}
 use Rattle.plain_tree.specs.Subtrees.{dropped, moved_entry, without_tree, without_pass}
-use Rattle.plain_tree.specs.Tree.{Node, Tree, root, node_at, handle_of, change_node, with_node, with_handle, without_handle, without_node, stamped}
+use Rattle.s3_base.specs.Numbers.{root}
+use Rattle.plain_tree.specs.Tree.{Node, Tree, node_at, handle_of, change_node, with_node, with_handle, without_handle, without_node, stamped}
 use Rattle.plain_tree.proofs.Replies.{reply_at}
 use Rattle.tree_laws.specs.LockedTrees.{Spares, AllSpare, IsAsBefore}
 use Rattle.tree_laws.specs.Locks.{IsKept}

@@ -15,7 +15,8 @@ use Rattle.plain_tree.specs.Checks.{first_failure, root_check}
 use Rattle.plain_tree.specs.Entries.{entry_at}
 use Rattle.plain_tree.specs.Operations.{checks, reply_to, tree_after}
 use Rattle.plain_tree.specs.Subtrees.{with_lock}
-use Rattle.plain_tree.specs.Tree.{Node, Tree, root, made_tree, node_at, stamped}
+use Rattle.s3_base.specs.Numbers.{root}
+use Rattle.plain_tree.specs.Tree.{Node, Tree, made_tree, node_at, stamped}
 use Rattle.plain_tree.proofs.Replies.{reply_at, tree_at}
 use Rattle.tree_laws.specs.LockedTrees.{Spares, AllSpare, SparesTree, AllSpareTree, IsAsBefore, StaysLocked}
 use Rattle.tree_laws.proofs.Lock.Entry.{one_stays, all_stay}

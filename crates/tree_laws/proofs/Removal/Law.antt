@@ -19,7 +19,8 @@ use Rattle.plain_tree.specs.Names.{NamesInOrder}
 use Rattle.plain_tree.specs.Numbers.{InOrder}
 use Rattle.plain_tree.specs.Operations.{checks, reply_to, tree_after}
 use Rattle.plain_tree.specs.Subtrees.{left_over, without_directories, without_tree}
-use Rattle.plain_tree.specs.Tree.{Content, Regular, Directory, Link, Node, Tree, root, made_tree, node_at, entry_of, changed_by, touched}
+use Rattle.s3_base.specs.Numbers.{root}
+use Rattle.plain_tree.specs.Tree.{Content, Regular, Directory, Link, Node, Tree, made_tree, node_at, entry_of, changed_by, touched}
 use Rattle.plain_tree.specs.WellFormed.{HasOneTree, HasNoOrphans}
 use Rattle.plain_tree.proofs.Replies.{tree_at}
 use Rattle.tree_laws.specs.Changes.{ChangesOneNode}

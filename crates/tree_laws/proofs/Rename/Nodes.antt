@@ -8,7 +8,8 @@ use Rattle.s3_base.specs.declared.node_kind.Kind.TheVariants as kinds
 use Rattle.plain_tree.specs.Entries.{entry_at, is_named, is_open, lives, settled, add_entry, drop_entry, unnamed}
 use Rattle.plain_tree.specs.Names.{NamesInOrder}
 use Rattle.plain_tree.specs.Numbers.{InOrder}
-use Rattle.plain_tree.specs.Tree.{Content, Directory, Node, Tree, root, node_at, change_node, changed_by, without_node, named, touched, stamped}
+use Rattle.s3_base.specs.Numbers.{root}
+use Rattle.plain_tree.specs.Tree.{Content, Directory, Node, Tree, node_at, change_node, changed_by, without_node, named, touched, stamped}
 use Rattle.tree_laws.specs.Renames.{IsStamped, IsTouched}
 use Rattle.tree_laws.proofs.Name.Order.{NamesInOrder-settled, NamesInOrder-add_entry, NamesInOrder-drop_entry, NamesInOrder-stamped}
 use Rattle.tree_laws.proofs.Node.Keys.{numbers_tell, lookup-remove_entry_other}

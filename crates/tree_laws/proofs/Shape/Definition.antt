@@ -7,7 +7,8 @@ use Rattle.plain_tree.specs.Checks.{name_check}
 use Rattle.plain_tree.specs.Entries.{is_folder, entry_at}
 use Rattle.plain_tree.specs.Names.{NamesInOrder}
 use Rattle.plain_tree.specs.Numbers.{InOrder}
-use Rattle.plain_tree.specs.Tree.{Tree, root, lost_and_found, node_at}
+use Rattle.s3_base.specs.Numbers.{root}
+use Rattle.plain_tree.specs.Tree.{Tree, lost_and_found, node_at}
 use Rattle.plain_tree.specs.WellFormed.{entries_naming, LeadsToRoot, HasOneTree, HasNoOrphans}
 use Rattle.tree_laws.proofs.Node.Kind.{one_some, kind_in, some_kind, kind_there, folder_kind, is_a_folder, file_kind, is_a_file, holds_kind}
 use Rattle.tree_laws.proofs.Shape.Count.{sum_one}

@@ -3,7 +3,8 @@ use Rattle.std.proofs.Common.{◌≡◌, ◌≢◌, ℕ, zero, suc, List, Bool, 
 use Rattle.std.proofs.lemmas.Bool.{true_from_ne_false, cases_eq}
 use Rattle.s3_base.specs.declared.node_kind.Kind.{Kind}
 use Rattle.s3_base.specs.declared.node_kind.Kind.TheVariants as kinds
-use Rattle.plain_tree.specs.Tree.{root, lost_and_found}
+use Rattle.s3_base.specs.Numbers.{root}
+use Rattle.plain_tree.specs.Tree.{lost_and_found}
 use Rattle.tree_laws.proofs.Node.Kind.{one_some, file_no_folder, none_from, none_some}
 use Rattle.tree_laws.proofs.Shape.Words.{Grown-reopened, Shape, Leads, IsUnnamed, Grown, NoneGoes, Only, IsPlace, cases_place, one_entry, not_there, leads_on}
 

@@ -7,7 +7,8 @@ use Rattle.std.specs.Ordering.{nat_cmp}
 use Rattle.s3_base.specs.declared.node_kind.Kind.{Kind}
 use Rattle.s3_base.specs.declared.node_kind.Kind.TheVariants as kinds
 use Rattle.plain_tree.specs.Entries.{entry_at}
-use Rattle.plain_tree.specs.Tree.{Directory, root, lost_and_found, empty_directory, made_tree, node_at}
+use Rattle.s3_base.specs.Numbers.{root}
+use Rattle.plain_tree.specs.Tree.{Directory, lost_and_found, empty_directory, made_tree, node_at}
 use Rattle.tree_laws.proofs.Node.Keys.{same_name, same_number}
 use Rattle.tree_laws.proofs.Node.Kind.{kind_in, entry_in}
 use Rattle.tree_laws.proofs.Shape.Steps.{Sound}

@@ -9,7 +9,8 @@ use Rattle.std.specs.Prelude.{◌==◌, ◌||◌}
 use Rattle.plain_tree.specs.Entries.{entries_of, entry_at, is_named, is_open, lives, settled, unnamed}
 use Rattle.plain_tree.specs.Names.{Rise, NamesRise, NamesInOrder}
 use Rattle.plain_tree.specs.Numbers.{Ascend, InOrder}
-use Rattle.plain_tree.specs.Tree.{Content, Node, Tree, root, entry_of, without_node}
+use Rattle.s3_base.specs.Numbers.{root}
+use Rattle.plain_tree.specs.Tree.{Content, Node, Tree, entry_of, without_node}
 use Rattle.tree_laws.proofs.Name.Reading.{named_in, any_named}
 use Rattle.tree_laws.proofs.Node.Kind.{entry_in, entry_from, entry_to}
 use Rattle.tree_laws.proofs.Node.Reading.{past_node, first_node}

@@ -15,7 +15,8 @@ use Rattle.plain_tree.specs.Names.{NamesInOrder}
 use Rattle.plain_tree.specs.Numbers.{InOrder}
 use Rattle.plain_tree.specs.Operations.{new_file, HandlesBelow}
 use Rattle.plain_tree.specs.Subtrees.{dropped, copy_number, with_copy, without_tree}
-use Rattle.plain_tree.specs.Tree.{Node, Handle, Tree, root, lost_and_found, node_at, entry_of, handle_of, change_node, with_node, with_handle, without_handle, without_node, stamped}
+use Rattle.s3_base.specs.Numbers.{root}
+use Rattle.plain_tree.specs.Tree.{Node, Handle, Tree, lost_and_found, node_at, entry_of, handle_of, change_node, with_node, with_handle, without_handle, without_node, stamped}
 use Rattle.tree_laws.proofs.Name.Order.{NamesInOrder-stamped, NamesInOrder-drop_entry}
 use Rattle.tree_laws.proofs.Node.Handles.{own_is, opened_was, opened_stays}
 use Rattle.tree_laws.proofs.Node.Kind.{file_no_folder, one_some, none_from, kind_in, entry_in, none_some, folder_of, opened_file, no_folder_is, empty_is}

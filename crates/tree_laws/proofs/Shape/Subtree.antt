@@ -15,7 +15,8 @@ use Rattle.plain_tree.specs.Entries.{is_directory, entry_at, is_named, is_open, 
 use Rattle.plain_tree.specs.Names.{NamesInOrder}
 use Rattle.plain_tree.specs.Numbers.{InOrder}
 use Rattle.plain_tree.specs.Subtrees.{with_lock, left_over, without_directories, without_tree, without_pass}
-use Rattle.plain_tree.specs.Tree.{Node, Handle, Tree, root, node_at, entry_of, without_handle, stamped}
+use Rattle.s3_base.specs.Numbers.{root}
+use Rattle.plain_tree.specs.Tree.{Node, Handle, Tree, node_at, entry_of, without_handle, stamped}
 use Rattle.tree_laws.proofs.Name.Order.{NamesRise-filter, NamesInOrder-drop_entry}
 use Rattle.tree_laws.proofs.Node.Ascend.{Ascend-filter}
 use Rattle.tree_laws.proofs.Node.Handles.{filtered_was, closed_stays, closed_was}

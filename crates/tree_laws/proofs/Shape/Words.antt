@@ -3,7 +3,8 @@ use Rattle.std.proofs.Common.{◌≡◌, ◌≢◌, ℕ, zero, suc, List, Bool, 
 use Rattle.std.proofs.lemmas.Bool.{cases_eq}
 use Rattle.s3_base.specs.declared.node_kind.Kind.{Kind}
 use Rattle.s3_base.specs.declared.node_kind.Kind.TheVariants as kinds
-use Rattle.plain_tree.specs.Tree.{root, lost_and_found}
+use Rattle.s3_base.specs.Numbers.{root}
+use Rattle.plain_tree.specs.Tree.{lost_and_found}
 use Rattle.tree_laws.proofs.Node.Keys.{cases_name}
 use Rattle.tree_laws.proofs.Node.Kind.{none_some, one_some}
 

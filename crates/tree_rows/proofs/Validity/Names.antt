@@ -19,7 +19,8 @@ use Rattle.s3_rows.specs.Keyed.{rises}
 use Rattle.s3_rows.specs.Tables.{Tables, by_inode}
 use Rattle.s3_rows.specs.Selections.{inode_at, bytes_cmp, bytes_of_name}
 use Rattle.s3_rows.specs.Counts.{listed_inode_count}
-use Rattle.s3_rows.specs.Validity.{HasOneTree, finds_of_entry, has_inode, is_directory, any_kind, is_named, have_one_name, differ, is_named_once, is_below_root, leads_to_root, parent_of, is_lost_and_found, lost_and_found, is_no_lost_directory, root}
+use Rattle.s3_base.specs.Numbers.{root}
+use Rattle.s3_rows.specs.Validity.{HasOneTree, finds_of_entry, has_inode, is_directory, any_kind, is_named, have_one_name, differ, is_named_once, is_below_root, leads_to_root, parent_of, is_lost_and_found, lost_and_found, is_no_lost_directory}
 use Rattle.row_lemmas.proofs.Tests.{find_passes, find_passes_all, list_any_from_find, equal_from_is_eq}
 use Rattle.row_lemmas.proofs.Sums.{list_any_from_count_by}
 use Rattle.row_lemmas.proofs.Keyed.RowAt.{row_at_own}

@@ -8,7 +8,8 @@ use Rattle.s3_rows.specs.Rows.{Inode, Content}
 use Rattle.s3_rows.specs.Keyed.{has_key}
 use Rattle.s3_rows.specs.Tables.{Tables, by_inode}
 use Rattle.s3_rows.specs.Selections.{inode_at}
-use Rattle.s3_rows.specs.Validity.{finds_of_entry, has_inode, any_kind, parent_of, leads_to_root, root}
+use Rattle.s3_base.specs.Numbers.{root}
+use Rattle.s3_rows.specs.Validity.{finds_of_entry, has_inode, any_kind, parent_of, leads_to_root}
 use Rattle.row_lemmas.proofs.Tests.{find_passes, find_passes_all}
 use Rattle.tree_rows.proofs.Whole.{number_of}
 use Rattle.tree_rows.proofs.Validity.Each.{count_by_same_or_more}

@@ -8,7 +8,8 @@ use Rattle.std.proofs.lemmas.Bool.{and_from}
 use Rattle.s3_base.specs.declared.node_kind.Kind.{Kind}
 use Rattle.s3_base.specs.declared.node_kind.Kind.TheVariants as kinds
 use Rattle.plain_tree.specs.Tree as tree
-use Rattle.plain_tree.specs.Tree.{Node, Tree, root, node_at}
+use Rattle.s3_base.specs.Numbers.{root}
+use Rattle.plain_tree.specs.Tree.{Node, Tree, node_at}
 use Rattle.plain_tree.specs.Entries.{entries_of, is_named, is_open}
 use Rattle.plain_tree.specs.Names.{Rise, NamesRise, AttributesRise}
 use Rattle.plain_tree.specs.Numbers.{Ascend, InOrder}

@@ -1,4 +1,4 @@
-use Rattle.s3_rows.specs.Validity.{root}
+use Rattle.s3_base.specs.Numbers.{root}
 use Rattle.tree_rows.proofs.Rooted.{link_count_is, stored_count}
 use Rattle.tree_rows.proofs.valid.stored_counts_are_link_counts.Goals as goal
 
