@@ -2,3 +2,4 @@ pub mod Operations
 pub mod Replies
 pub mod Replay
 pub mod Answers
+pub mod Rules

@@ -2,3 +2,4 @@ pub mod Answers
 pub mod Operations
 pub mod Replay
 pub mod Replies
+pub mod Rules
