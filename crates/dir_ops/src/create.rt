@@ -108,7 +108,8 @@ fn add_entry(
 
 /// The batch is committed, and the reply is the next handle with the attributes of the row.
 fn opened(alloc: Global, handles: &Handles, batch: Batch, row: &InodeRow) -> Plan
-    ensures { result ≡ Plan.Commit batch (replies.Opened handles.now.next (attr_of_row row.now)) [] }
+    ensures plan { result ≡ Plan.Commit batch (replies.Opened handles.now.next (attr_of_row row.now)) [] }
+    ensures fit { HasFitReply result }
 {
     Plan::Commit {
         batch,

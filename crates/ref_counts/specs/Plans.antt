@@ -4,7 +4,7 @@ use Rattle.std.specs.List.{list_all}
 use Rattle.op_frames.specs.declared.operation.Op.{Op}
 use Rattle.op_frames.specs.declared.reply.Reply.{Reply}
 use Rattle.op_frames.specs.declared.reply.Reply.TheVariants as replies
-use Rattle.op_frames.specs.Answers.{has_short_data}
+use Rattle.op_frames.specs.Rules.{has_fit_fields}
 use Rattle.plain_tree.specs.Tree.{Tree}
 use Rattle.plain_tree.specs.Checks.{first_failure}
 use Rattle.plain_tree.specs.Operations.{checks, success, effect}
@@ -82,9 +82,9 @@ is_by_rules (replies.Fault cause) = false
 is_by_rules (replies.Lost object kept got) = false
 is_by_rules _ = true
 
--- such a reply whose lists fit into a frame
+-- such a reply whose fields are within their rules
 abbrev pub is_fit : Reply → Bool
-is_fit reply = is_by_rules reply && has_short_data reply
+is_fit reply = is_by_rules reply && has_fit_fields reply
 
 abbrev pub HasFitReply : Plan → Type 0
 HasFitReply (plans.Refuse errno) = Unit {0}

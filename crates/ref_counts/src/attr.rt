@@ -1,5 +1,6 @@
 //! The attributes that a row has.
-ghost use Rattle.std.specs.Prelude.{◌≡◌};
+ghost use Rattle.std.specs.Prelude.{◌≡◌, IsTrue};
+ghost use Rattle.op_frames.specs.Rules.{has_mode};
 ghost use Rattle.tree_rows.specs.Attrs.{attr_of_row};
 
 use op_frames::Attr;
@@ -7,7 +8,8 @@ use s3_rows::InodeRow;
 
 /// The attributes that an inode's row has.
 pub fn attr_of(row: &InodeRow) -> Attr
-    ensures { result ≡ attr_of_row row.now }
+    ensures attr { result ≡ attr_of_row row.now }
+    ensures mode { IsTrue (has_mode result) }
 {
     Attr {
         inode: row.id,

@@ -8,7 +8,7 @@ use Rattle.volume_core.specs.declared.refusal.Refusal.{Refusal}
 use Rattle.volume_core.specs.declared.refusal.Refusal.TheVariants.{Refused, Worn, Keeper, Memory}
 use Rattle.volume_core.specs.Refusals.{IsOutcome, has_keeper_failed}
 use Rattle.volume_core.proofs.Answered.{ok, refused, worn, failed, no_room, not_there, either}
-use Rattle.volume_core.proofs.row_core.RowCore.answer.Goals as goal
+use Rattle.volume_core.proofs.row_core.RowCore.reply_to.Goals as goal
 
 pub returns-in-Ok-clause-answer : goal.returns-in-Ok-clause-answer
 returns-in-Ok-clause-answer g c whole s =

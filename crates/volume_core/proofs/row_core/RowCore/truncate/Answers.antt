@@ -39,7 +39,7 @@ returns-in-Ok-clause-outcome g c whole pass s =
     let after : RowCore g.row.K.Denot = record { alloc = c.args.self.now.alloc; keeper = c.put_row.new.keeper; handles = c.args.self.now.handles; files = c.cut.new.self } in
     truncated_so g.K.Keeper.told before after whole s pass c.args.inode c.args.size c.args.now c.in_ok-row.row c.in_ok-row.ensures.row
     (record { id = c.row.inside.id; kind = c.row.inside.kind; mode = c.row.inside.mode; uid = c.row.inside.uid; gid = c.row.inside.gid; mtime = c.row.inside.mtime; ctime = c.row.inside.ctime; refcount = c.row.inside.refcount; size = c.row.inside.size; locked = c.row.inside.locked })
-    (g.K.Keeper.told c.file_row.new.keeper) c.attr_of.result c.attr_of.ensures c.row.view_is c.row.invariant.refcount c.in_ok-check_size.ensures c.in-Ok.ensures.ok c.in_ok-row.ensures.same refl
+    (g.K.Keeper.told c.file_row.new.keeper) c.attr_of.result c.attr_of.ensures.attr c.row.view_is c.row.invariant.refcount c.in_ok-check_size.ensures c.in-Ok.ensures.ok c.in_ok-row.ensures.same refl
     (changed_twice c.in_ok-row.row.id (padded c.args.size) (take c.args.size) (resized c.args.size) before.files c.grow.new.self c.cut.new.self
     (subst (λ (r : Inode). IsChanged r.id (padded c.args.size) before.files c.grow.new.self) c.row.view_is c.in_ok-grow.ensures.ok)
     (subst (λ (r : Inode). IsChanged r.id (take c.args.size) c.grow.new.self c.cut.new.self) c.row.view_is c.cut.ensures)
