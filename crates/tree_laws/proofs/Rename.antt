@@ -1,5 +1,4 @@
 -- What a rename moves.
-mod Entry
-pub mod Law
+pub mod Entry
 mod Nodes
 pub mod Shape

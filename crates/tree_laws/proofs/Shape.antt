@@ -8,7 +8,6 @@ pub mod Gain
 pub mod Loss
 pub mod Made
 pub mod Named
-mod Once
 pub mod Operations
 pub mod Steps
 pub mod Subtree

@@ -1,5 +1,5 @@
 -- The names of entries stay legal.
-use Rattle.std.proofs.Common.{◌≡◌, ℕ, ◌+◌, List, [], ◌∷◌, Bool, true, false, cond, Option, None, Some, refl, ap, ◌∙◌}
+use Rattle.std.proofs.Common.{sym, ◌≡◌, ℕ, ◌+◌, List, [], ◌∷◌, Bool, true, false, cond, Option, None, Some, refl, ap, ◌∙◌}
 use Rattle.std.specs.BTreeMap.{is_at}
 use Rattle.std.specs.Cmp.Lexicographic.{slice_cmp}
 use Rattle.std.specs.Map.{keys_of, values_of, lookup}
@@ -11,12 +11,12 @@ use Rattle.plain_tree.specs.Entries.{entries_of, entry_at}
 use Rattle.plain_tree.specs.Names.{Rise, NamesRise, NamesInOrder}
 use Rattle.plain_tree.specs.Numbers.{Ascend, InOrder}
 use Rattle.plain_tree.specs.Operations.{tree_after}
-use Rattle.plain_tree.specs.Tree.{Content, Regular, Directory, Link, Node, Tree, node_at, entry_of}
+use Rattle.plain_tree.specs.Tree.{Content, Node, Tree, node_at, entry_of}
 use Rattle.tree_laws.proofs.Name.Reading.{first_name, past_first}
 use Rattle.tree_laws.proofs.Name.Rise.{Rise-tail}
 use Rattle.tree_laws.proofs.Node.Each.{EachEntry, KeepsEntries, each-insert_entry, each-remove_entry, keeps_by_entries, Each, each-found, each-tree_after}
 use Rattle.tree_laws.proofs.Node.Keys.{same_name}
-use Rattle.tree_laws.proofs.Node.Kind.{entry_in}
+use Rattle.tree_laws.proofs.Node.Kind.{entry_lookup, entry_in}
 use Rattle.tree_laws.proofs.Node.Reading.{first_node, past_node}
 
 abbrev AreLegal : List (List ℕ × ℕ) → Type 0
@@ -43,9 +43,7 @@ legal-found name inode (e ∷ es) all is = legal-here name inode e _ (is_at (sli
 -- ---- contents
 
 legal-entry : (name : List ℕ) (inode : ℕ) (content : Content) → AreLegal (entries_of content) → entry_of content name ≡ Some inode → name_check name ≡ None
-legal-entry name inode (Directory entries) all is = legal-found name inode entries all is
-legal-entry name inode (Regular bytes) all is = absurd (cc is)
-legal-entry name inode (Link target) all is = absurd (cc is)
+legal-entry name inode content all is = legal-found name inode (entries_of content) all (sym (entry_lookup name content) ∙ is)
 
 -- ---- operations
 
@@ -79,9 +77,7 @@ legal_of (e ∷ es) rise all =
     (all e.0 e.1 (first_name e es), legal_of es (Rise-tail e.0 (keys_of es) rise) (λ name inode is. all name inode (past_first name e es inode rise is)))
 
 legal_content : (content : Content) → Rise (keys_of (entries_of content)) → ((name : List ℕ) (inode : ℕ) → entry_of content name ≡ Some inode → name_check name ≡ None) → AreLegal (entries_of content)
-legal_content (Directory entries) rise all = legal_of entries rise all
-legal_content (Regular bytes) rise all = _
-legal_content (Link target) rise all = _
+legal_content content rise all = legal_of (entries_of content) rise (λ name inode is. all name inode (entry_lookup name content ∙ is))
 
 to_each : (low : ℕ) (es : List (ℕ × Node)) (next : ℕ) → Ascend low (keys_of es) next → NamesRise (values_of es)
     → ((parent inode : ℕ) (name : List ℕ) → entry_in name (lookup (is_at (nat_cmp parent)) es) ≡ Some inode → name_check name ≡ None) → Each HasLegalNames es

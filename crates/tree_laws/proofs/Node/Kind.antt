@@ -11,7 +11,7 @@ use Rattle.std.specs.Prelude.{length, is_some, option_and_then}
 use Rattle.s3_base.specs.declared.node_kind.Kind.{Kind}
 use Rattle.s3_base.specs.declared.node_kind.Kind.TheVariants as kinds
 use Rattle.plain_tree.specs.Attributes.{kind_of}
-use Rattle.plain_tree.specs.Checks.{node_check, directory_check, file_check, free_check, no_directory_check, empty_check, open_check}
+use Rattle.plain_tree.specs.Checks.{entry_check, node_check, directory_check, file_check, free_check, no_directory_check, empty_check, open_check}
 use Rattle.plain_tree.specs.Entries.{entries_of, is_directory, is_folder}
 use Rattle.plain_tree.specs.Files.{with_bytes}
 use Rattle.plain_tree.specs.Subtrees.{copied_content, copy_number}
@@ -132,15 +132,11 @@ holds_kind found m y is =
     let node = entry_some m y found is in
     ap kind_in node.1 ∙ ap Some (directory_kind node.0.content (holds_directory node.0.content m y node.2))
 
-pub entry_from : (y : ℕ) (name : List ℕ) (content : Content) → lookup (is_at (slice_cmp nat_cmp name)) (entries_of content) ≡ Some y → entry_of content name ≡ Some y
-entry_from y name (Directory entries) is = is
-entry_from y name (Regular bytes) is = absurd (cc is)
-entry_from y name (Link target) is = absurd (cc is)
-
-pub entry_to : (y : ℕ) (name : List ℕ) (content : Content) → entry_of content name ≡ Some y → lookup (is_at (slice_cmp nat_cmp name)) (entries_of content) ≡ Some y
-entry_to y name (Directory entries) is = is
-entry_to y name (Regular bytes) is = absurd (cc is)
-entry_to y name (Link target) is = absurd (cc is)
+-- an entry is what a look-up among the entries finds
+pub entry_lookup : (name : List ℕ) (content : Content) → entry_of content name ≡ lookup (is_at (slice_cmp nat_cmp name)) (entries_of content)
+entry_lookup name (Directory entries) = refl
+entry_lookup name (Regular bytes) = refl
+entry_lookup name (Link target) = refl
 
 pub kind_bytes : (f : List ℕ → List ℕ) (content : Content) → kind_of (with_bytes f content) ≡ kind_of content
 kind_bytes f (Regular bytes) = refl
@@ -195,6 +191,15 @@ pub opened_file : (found : Option (List ℕ)) → open_check found ≡ None → 
 opened_file None is = absurd (cc is)
 opened_file (Some old) is = (old, refl)
 
+-- the entry is there
+pub entry_there : (found : Option ℕ) → entry_check found ≡ None → (x : ℕ) × (found ≡ Some x)
+entry_there None there = absurd (cc there)
+entry_there (Some x) there = (x, refl)
+
+pub node_there : (found : Option Node) → node_check found ≡ None → (node : Node) × (found ≡ Some node)
+node_there None there = absurd (cc there)
+node_there (Some node) there = (node, refl)
+
 no_some : (found : Option ℕ) → is_some found ≡ false → found ≡ None
 no_some None is = refl
 no_some (Some y) is = absurd (cc is)
@@ -213,11 +218,6 @@ no_entry : (entries : List (List ℕ × ℕ)) (m : List ℕ) → length entries 
 no_entry [] m short = refl
 no_entry (e ∷ entries) m short = absurd (omega (arith, short))
 
-empty_content : (content : Content) (m : List ℕ) → length (entries_of content) ≤ 0 → entry_of content m ≡ None
-empty_content (Directory entries) m short = no_entry entries m short
-empty_content (Regular bytes) m short = refl
-empty_content (Link target) m short = refl
-
 pub empty_is : (found : Option Node) → empty_check found ≡ None → (m : List ℕ) → entry_in m found ≡ None
 empty_is None is m = refl
-empty_is (Some node) is m = empty_content node.content m (ltb-false 0 (length (entries_of node.content)) (not_failed 39 _ is))
+empty_is (Some node) is m = entry_lookup m node.content ∙ no_entry (entries_of node.content) m (ltb-false 0 (length (entries_of node.content)) (not_failed 39 _ is))

@@ -123,9 +123,9 @@ node_at_none_next t ordered x less = none_from (node_at t x) (λ node is. omega 
 
 -- ---- the file that a handle has open
 
-file_named : (t : Tree) (found : Option Handle) (old : List ℕ) → option_and_then (λ (h : Handle). file_at t h.inode) found ≡ Some old → file_at t (inode_of found) ≡ Some old
-file_named t None old is = absurd (cc is)
-file_named t (Some handle) old is = is
+pub handle_there : (t : Tree) (found : Option Handle) (old : List ℕ) → option_and_then (λ (h : Handle). file_at t h.inode) found ≡ Some old → (h : Handle) × (found ≡ Some h) × (file_at t h.inode ≡ Some old)
+handle_there t None old is = absurd (cc is)
+handle_there t (Some h) old is = (h, refl, is)
 
 content_is : (content : Content) (old : List ℕ) → bytes_of content ≡ Some old → content ≡ Regular old
 content_is (Regular bytes) old is = cc is
@@ -139,7 +139,10 @@ node_of_file (Some node) old is = (node, refl, content_is node.content old is)
 
 pub node_of_handle : (t : Tree) (found : Option Handle) (old : List ℕ) → option_and_then (λ (h : Handle). file_at t h.inode) found ≡ Some old
     → (node : Node) × (node_at t (inode_of found) ≡ Some node) × (node.content ≡ Regular old)
-node_of_handle t found old is = node_of_file (node_at t (inode_of found)) old (file_named t found old is)
+node_of_handle t found old is =
+    let handle = handle_there t found old is in
+    let node = node_of_file (node_at t handle.0.inode) old handle.2 in
+    (node.0, ap (λ f. node_at t (inode_of f)) handle.1 ∙ node.1, node.2)
 
 -- ---- readings
 

@@ -1,5 +1,5 @@
 -- A RemoveTree removes what it names.
-use Rattle.std.proofs.Common.{◌≡◌, ◌≢◌, ℕ, ◌+◌, List, [], ◌∷◌, Bool, true, false, cond, Option, None, Some, refl, sym, ap, ◌∙◌, inl, inr, subst, arith}
+use Rattle.std.proofs.Common.{◌≡◌, ◌≢◌, ℕ, ◌+◌, List, [], ◌∷◌, Bool, true, false, cond, Option, None, Some, sym, ap, ◌∙◌, inl, inr, subst, arith}
 use Rattle.std.proofs.lemmas.Bool.{eqb-true, or_left, or_right, or_cases, false_from_ne_true, both_ways}
 use Rattle.std.specs.BTreeMap.{is_at}
 use Rattle.std.specs.Cmp.Lexicographic.{slice_cmp}
@@ -13,7 +13,7 @@ use Rattle.op_frames.specs.declared.reply.Reply.TheVariants as replies
 use Rattle.s3_base.specs.declared.node_kind.Kind.TheVariants as kinds
 use Rattle.plain_tree.specs.Below.{is_among, at_and_below}
 use Rattle.plain_tree.specs.Calls.{tree_after_all}
-use Rattle.plain_tree.specs.Checks.{first_failure, node_check, entry_check, directory_check}
+use Rattle.plain_tree.specs.Checks.{first_failure, directory_check}
 use Rattle.plain_tree.specs.Entries.{entries_of, is_directory, entry_at, is_named, is_open, lives, drop_entry, unnamed}
 use Rattle.plain_tree.specs.Names.{NamesInOrder}
 use Rattle.plain_tree.specs.Numbers.{InOrder}
@@ -27,7 +27,7 @@ use Rattle.tree_laws.specs.Changes.{ChangesOneNode}
 use Rattle.tree_laws.specs.Removals.{IsRemoved}
 use Rattle.tree_laws.proofs.Name.Order.{NamesRise-filter, NamesInOrder-drop_entry}
 use Rattle.tree_laws.proofs.Node.Ascend.{Ascend-filter}
-use Rattle.tree_laws.proofs.Node.Kind.{kind_in, entry_in, kind_some, entry_some, folder_is}
+use Rattle.tree_laws.proofs.Node.Kind.{entry_there, folder_of, kind_in, entry_in, entry_some}
 use Rattle.tree_laws.proofs.Node.Order.{InOrder-change_node}
 use Rattle.tree_laws.proofs.Node.Reading.{changed_by-changes_one, node_at-change_node_same, node_at-change_node_other}
 use Rattle.tree_laws.proofs.Node.Subtree.{outer_entry, outside_left, none_left, folder_part, held_part, outer_stays, outer_found, sifted_node, left_over_found, left_of}
@@ -139,20 +139,16 @@ removed_whole p n now x t sound names folder =
 
 -- ---- the operation
 
-removed_if : (p : ℕ) (n : List ℕ) (now : ℕ) (t : Tree) → Rooted t → (found : Option ℕ) → entry_at t p n ≡ found → entry_check found ≡ None → directory_check (option_and_then (node_at t) found) ≡ None
-    → IsRemoved p n now t (without_tree p n now found t)
-removed_if p n now t sound None is there folder = absurd (cc there)
-removed_if p n now t sound (Some x) is there folder =
-    let node = sound.grown.there p x n is in
-    let found = kind_some (node_at t x) node.0 node.1 in
-    removed_whole p n now x t sound is (folder_is (node_at t x) (ap node_check found.1) folder)
-
 -- where a RemoveTree is answered Done
 removed_by : (t : Tree) → Rooted t → (pass now p : ℕ) (n : List ℕ) → reply_to t pass (ops.RemoveTree p n) now ≡ replies.Done → IsRemoved p n now t (tree_after t pass (ops.RemoveTree p n) now)
 removed_by t sound pass now p n done =
     let passes : first_failure (checks t pass (ops.RemoveTree p n)) ≡ None = passes_if_done t pass now (ops.RemoveTree p n) done in
     let can = can_uproot t pass p n passes in
-    subst (IsRemoved p n now t) (sym (tree_at t pass now (ops.RemoveTree p n) None passes)) (removed_if p n now t sound (entry_at t p n) refl can.drop.entry can.child_folder)
+    let named = entry_there (entry_at t p n) can.drop.entry in
+    let node = sound.grown.there p named.0 n named.1 in
+    let folder : kind_in (node_at t named.0) ≡ Some kinds.Directory =
+    folder_of (node_at t named.0) node.0 node.1 (ap (λ o. directory_check (option_and_then (node_at t) o)) (sym named.1) ∙ can.child_folder) in
+    subst (IsRemoved p n now t) (sym (tree_at t pass now (ops.RemoveTree p n) None passes ∙ ap (λ o. without_tree p n now o t) named.1)) (removed_whole p n now named.0 t sound named.1 folder)
 
 -- every tree that is well formed
 pub removed_in : (t : Tree) → InOrder t → NamesInOrder t → HasOneTree t → HasNoOrphans t → (pass now parent : ℕ) (name : List ℕ) → reply_to t pass (ops.RemoveTree parent name) now ≡ replies.Done

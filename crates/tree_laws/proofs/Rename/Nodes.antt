@@ -88,14 +88,7 @@ touched_again now g keeps i t before touches =
     }
 
 pub touched_on : (now : ℕ) (before found after : Option Node) → IsTouched now before found → after ≡ found → IsTouched now before after
-touched_on now before found after touches same = record {
-  node = touches.node;
-  old = touches.old;
-  new = touches.new;
-  was = touches.was;
-  was_directory = touches.was_directory;
-  is = same ∙ touches.is;
-}
+touched_on now before found after touches same = subst (IsTouched now before) (sym same) touches
 
 -- a directory that was touched stays so where any directory is edited
 touched_through : (now : ℕ) (g : Content → Content) → KeepsFolders g → (i y : ℕ) (t : Tree) (before : Option Node) → IsTouched now before (node_at t y)

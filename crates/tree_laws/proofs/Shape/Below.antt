@@ -13,7 +13,7 @@ use Rattle.plain_tree.specs.Names.{Rise, NamesInOrder}
 use Rattle.plain_tree.specs.Tree.{Node, Tree, node_at}
 use Rattle.tree_laws.proofs.Name.Reading.{any_named}
 use Rattle.tree_laws.proofs.Node.Keys.{same_number}
-use Rattle.tree_laws.proofs.Node.Kind.{entry_in, entry_to}
+use Rattle.tree_laws.proofs.Node.Kind.{entry_in, entry_lookup}
 use Rattle.tree_laws.proofs.Shape.Gain.{IsBelow}
 use Rattle.tree_laws.proofs.Shape.Named.{entry_named}
 use Rattle.tree_laws.proofs.Shape.Tree.{shape_of, rise_at}
@@ -54,22 +54,16 @@ unfolding left
 left_most [] seen = omega arith
 left_most (e ∷ es) seen = omega (arith, one_more (is_among seen e.0) (left seen es), left_most es seen)
 
-fewer_if : (first second : Bool) (m n : ℕ) → (first ≡ true → second ≡ true) → n ≤ m → cond second n (n + 1) ≤ cond first m (m + 1)
-fewer_if true true m n within less = less
-fewer_if true false m n within less = absurd (cc (within refl))
-fewer_if false true m n within less = omega (arith, less)
-fewer_if false false m n within less = omega (arith, less)
+step_if : (first second : Bool) (k m n : ℕ) → (first ≡ true → second ≡ true) → n + k ≤ m → cond second n (n + 1) + k ≤ cond first m (m + 1)
+step_if true true k m n within less = less
+step_if true false k m n within less = absurd (cc (within refl))
+step_if false true k m n within less = omega (arith, less)
+step_if false false k m n within less = omega (arith, less)
 
 fewer : (seen more : List ℕ) → Within seen more → (es : List (ℕ × Node)) → left more es ≤ left seen es
 unfolding left
 fewer seen more within [] = omega arith
-fewer seen more within (e ∷ es) = fewer_if (is_among seen e.0) (is_among more e.0) (left seen es) (left more es) (within e.0) (fewer seen more within es)
-
-strict_if : (first second : Bool) (m n : ℕ) → (first ≡ true → second ≡ true) → n + 1 ≤ m → cond second n (n + 1) + 1 ≤ cond first m (m + 1)
-strict_if true true m n within less = less
-strict_if true false m n within less = absurd (cc (within refl))
-strict_if false true m n within less = omega (arith, less)
-strict_if false false m n within less = omega (arith, less)
+fewer seen more within (e ∷ es) = omega (arith, step_if (is_among seen e.0) (is_among more e.0) 0 (left seen es) (left more es) (within e.0) (omega (arith, fewer seen more within es)))
 
 first_one : (first second : Bool) (m n : ℕ) → first ≡ false → second ≡ true → n ≤ m → cond second n (n + 1) + 1 ≤ cond first m (m + 1)
 first_one true second m n is also less = absurd (cc is)
@@ -83,7 +77,7 @@ strict_here seen more within inode new there e es node true here rest is =
     let same : inode ≡ e.0 = same_number inode e.0 here in
     first_one (is_among seen e.0) (is_among more e.0) (left seen es) (left more es) (ap (is_among seen) (sym same) ∙ new) (ap (is_among more) (sym same) ∙ there) (fewer seen more within es)
 strict_here seen more within inode new there e es node false here rest is =
-    strict_if (is_among seen e.0) (is_among more e.0) (left seen es) (left more es) (within e.0) (rest is)
+    step_if (is_among seen e.0) (is_among more e.0) 1 (left seen es) (left more es) (within e.0) (rest is)
 
 strict : (seen more : List ℕ) → Within seen more → (inode : ℕ) → is_among seen inode ≡ false → is_among more inode ≡ true → (es : List (ℕ × Node)) (node : Node)
     → lookup (is_at (nat_cmp inode)) es ≡ Some node → left more es + 1 ≤ left seen es
@@ -205,7 +199,7 @@ any_value y (e ∷ es) = ap (λ b. (e.1 == y) || b) (any_value y es)
 child_of : (y : ℕ) (m : List ℕ) (found : Option Node) → entry_in m found ≡ Some y
     → is_among (elim found as (λ _. List ℕ) [ Some node ↦ map (λ e. e.1) (entries_of node.content) | None ↦ [] ]) y ≡ true
 child_of y m None is = absurd (cc is)
-child_of y m (Some node) is = any_value y (entries_of node.content) ∙ any_named y m (entries_of node.content) (entry_to y m node.content is)
+child_of y m (Some node) is = any_value y (entries_of node.content) ∙ any_named y m (entries_of node.content) (sym (entry_lookup m node.content) ∙ is)
 
 names_child : (y : ℕ) (found : Option Node) → ((node : Node) → found ≡ Some node → Rise (keys_of (entries_of node.content)))
     → is_among (elim found as (λ _. List ℕ) [ Some node ↦ map (λ e. e.1) (entries_of node.content) | None ↦ [] ]) y ≡ true → (m : List ℕ) × (entry_in m found ≡ Some y)

@@ -11,9 +11,8 @@ use Rattle.s3_base.specs.Numbers.{root}
 use Rattle.plain_tree.specs.Tree.{Tree, lost_and_found, node_at}
 use Rattle.plain_tree.specs.WellFormed.{entries_naming, LeadsToRoot, HasOneTree, HasNoOrphans}
 use Rattle.tree_laws.proofs.Node.Kind.{one_some, kind_in, some_kind, kind_there, folder_kind, is_a_folder, file_kind, is_a_file, holds_kind}
-use Rattle.tree_laws.proofs.Shape.Count.{sum_one}
+use Rattle.tree_laws.proofs.Shape.Count.{sum_one, named_once}
 use Rattle.tree_laws.proofs.Shape.Named.{unnamed_by, not_named, is_named_by}
-use Rattle.tree_laws.proofs.Shape.Once.{named_once}
 use Rattle.tree_laws.proofs.Shape.Steps.{Sound}
 use Rattle.tree_laws.proofs.Shape.Tree.{shape_of}
 use Rattle.tree_laws.proofs.Shape.Words.{Leads, Grown, NoneGoes}

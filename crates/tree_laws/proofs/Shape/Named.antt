@@ -1,5 +1,5 @@
 -- What is named, and what keeps a node.
-use Rattle.std.proofs.Common.{◌≡◌, ◌≢◌, ℕ, ◌+◌, List, [], ◌∷◌, Bool, true, false, cond, Option, Some, refl, ap, ◌∙◌, inl, inr}
+use Rattle.std.proofs.Common.{sym, ◌≡◌, ◌≢◌, ℕ, ◌+◌, List, [], ◌∷◌, Bool, true, false, cond, Option, Some, refl, ap, ◌∙◌, inl, inr}
 use Rattle.std.proofs.lemmas.Bool.{false_from_ne_true, or_from, true_from_ne_false, cond_both, or_parts, eq-eqb, ne_eqb, or_left, or_right, or_cases, both_ways}
 use Rattle.std.specs.BTreeMap.{is_at}
 use Rattle.std.specs.List.{list_any}
@@ -12,7 +12,7 @@ use Rattle.plain_tree.specs.Numbers.{Ascend, InOrder}
 use Rattle.s3_base.specs.Numbers.{root}
 use Rattle.plain_tree.specs.Tree.{Content, Node, Tree, entry_of, without_node}
 use Rattle.tree_laws.proofs.Name.Reading.{named_in, any_named}
-use Rattle.tree_laws.proofs.Node.Kind.{entry_in, entry_from, entry_to}
+use Rattle.tree_laws.proofs.Node.Kind.{entry_in, entry_lookup}
 use Rattle.tree_laws.proofs.Node.Reading.{past_node, first_node}
 use Rattle.tree_laws.proofs.Shape.Loss.{Grown-removed, Grown-spared}
 use Rattle.tree_laws.proofs.Shape.Tree.{shape_of, shape-without_node}
@@ -23,7 +23,7 @@ use Rattle.tree_laws.proofs.Shape.Words.{IsUnnamed, Grown, NoneGoes, Only}
 pub entry_named : (y : ℕ) (content : Content) → Rise (keys_of (entries_of content)) → list_any (λ e. e.1 == y) (entries_of content) ≡ true → (name : List ℕ) × (entry_of content name ≡ Some y)
 entry_named y content rise is =
     let found = named_in y (entries_of content) rise is in
-    (found.0, entry_from y found.0 content found.1)
+    (found.0, entry_lookup found.0 content ∙ found.1)
 
 pub named_at : (y low : ℕ) (es : List (ℕ × Node)) (next : ℕ) → Ascend low (keys_of es) next → NamesRise (values_of es)
     → list_any (λ e. list_any (λ entry. entry.1 == y) (entries_of e.1.content)) es ≡ true → (p : ℕ) × (n : List ℕ) × (entry_in n (lookup (is_at (nat_cmp p)) es) ≡ Some y)
@@ -40,7 +40,7 @@ named_at y low (e ∷ es) next ascend rise is =
 
 any_if : (y : ℕ) (n : List ℕ) (e : ℕ × Node) (found : Option Node) (others test : Bool) → entry_in n (cond test (Some e.1) found) ≡ Some y → (entry_in n found ≡ Some y → others ≡ true)
     → (list_any (λ entry. entry.1 == y) (entries_of e.1.content) || others) ≡ true
-any_if y n e found others true is rest = or_left _ others (any_named y n (entries_of e.1.content) (entry_to y n e.1.content is))
+any_if y n e found others true is rest = or_left _ others (any_named y n (entries_of e.1.content) (sym (entry_lookup n e.1.content) ∙ is))
 any_if y n e found others false is rest = or_right (list_any (λ entry. entry.1 == y) (entries_of e.1.content)) others (rest is)
 
 any_at : (y p : ℕ) (n : List ℕ) (es : List (ℕ × Node)) → entry_in n (lookup (is_at (nat_cmp p)) es) ≡ Some y

@@ -1,18 +1,18 @@
 -- One tree of names without orphans, through every operation.
-use Rattle.std.proofs.Common.{◌≡◌, ℕ, List, None, Some, refl, ap, ◌∙◌}
+use Rattle.std.proofs.Common.{◌≡◌, ℕ, List, None, refl}
 use Rattle.std.specs.List.{filter}
 use Rattle.std.specs.Prelude.{◌==◌, not}
 use Rattle.op_frames.specs.declared.operation.Op.{Op}
 use Rattle.plain_tree.specs.Attributes.{kind_of}
-use Rattle.plain_tree.specs.Entries.{entry_at, lives}
+use Rattle.plain_tree.specs.Entries.{lives}
 use Rattle.plain_tree.specs.Files.{written_at, resized}
 use Rattle.plain_tree.specs.Operations.{tree_after}
 use Rattle.plain_tree.specs.Subtrees.{with_lock, without_pass}
-use Rattle.plain_tree.specs.Tree.{Node, Tree, node_at, entry_of, change_node}
+use Rattle.plain_tree.specs.Tree.{Node, Tree, entry_of, change_node}
 use Rattle.plain_tree.proofs.Changes.{change_after}
 use Rattle.plain_tree.proofs.Handles.{below-change}
 use Rattle.tree_laws.proofs.Name.Order.{NamesInOrder-tree_after}
-use Rattle.tree_laws.proofs.Node.Kind.{kind_in, kind_bytes, entry_bytes, folder_is, file_of, free_is}
+use Rattle.tree_laws.proofs.Node.Kind.{kind_bytes, entry_bytes}
 use Rattle.tree_laws.proofs.Node.Order.{InOrder-tree_after}
 use Rattle.tree_laws.proofs.Rename.Shape.{Grown-moved_entry}
 use Rattle.tree_laws.proofs.Shape.Loss.{Grown-swept}
@@ -55,20 +55,17 @@ grown_effects : (t : Tree) (pass now : ℕ) (op : Op) → Sound t → Effects t 
 grown_effects t pass now op sound = record {
   same = sound.grown;
   edits = λ e x fits allowed spares. Grown-same NoneGoes (shape_of t) (shape_of (change_node x (edited now e) t)) (shape-edited now e spares x t) sound.grown;
-  makes = λ p n new begins can. Grown-with_new_node t p n (built now new) now sound (new_has_no_entry now new) (folder_is (node_at t p) can.there can.folder) (free_is (node_at t p) n can.free);
-  creates = λ p n mode uid gid fits can handles. Grown-with_new_file t pass p n mode uid gid now sound (folder_is (node_at t p) can.there can.folder) (free_is (node_at t p) n can.free);
-  links = λ x p n can. Grown-link t x p n now sound (node_at t x) refl can.there can.file (folder_is (node_at t p) can.parent_there can.parent_folder) (free_is (node_at t p) n can.free);
-  unlinks = λ p n can. Grown-unlink t p n now sound (entry_at t p n) refl can.drop.kept can.drop.entry can.file;
-  unmakes = λ p n can. Grown-rmdir t p n now sound (entry_at t p n) refl can.drop.kept can.drop.entry can.child_folder can.empty;
+  makes = λ p n new begins can. Grown-with_new_node t now sound p n (built now new) (new_has_no_entry now new) can;
+  creates = λ p n mode uid gid fits can handles. Grown-with_new_file t now sound pass p n mode uid gid can;
+  links = Grown-link t now sound;
+  unlinks = Grown-unlink t now sound;
+  unmakes = Grown-rmdir t now sound;
   moves = λ p n np nn can. Grown-moved_entry t p n np nn now sound can;
-  opens = λ x there file handles.
-      let found = file_of (node_at t x) there file in
-      Grown-open t x pass sound (ap kind_in found.2 ∙ ap (λ c. Some (kind_of c)) found.3);
-  closes = λ number opened. Grown-release t pass number sound opened;
-  copies = λ source p n can.
-      Grown-with_copy t source p n now sound (folder_is (node_at t source) can.source_there can.source_folder) (folder_is (node_at t p) can.there can.folder) (free_is (node_at t p) n can.free);
+  opens = λ x there file handles. Grown-open t now sound x pass there file;
+  closes = λ number opened. Grown-release t now sound pass number opened;
+  copies = Grown-with_copy t now sound;
   locks = λ x. Grown-same NoneGoes (shape_of t) (shape_of (with_lock x t)) (shape-with_lock x t) sound.grown;
-  uproots = λ p n is can. Grown-without_tree t p n now sound (entry_at t p n) refl can.drop.kept can.drop.entry can.child_folder;
+  uproots = λ p n is can. Grown-without_tree t now sound p n can;
   leaves = Grown-swept (shape_of t) (shape_of (without_pass pass t)) (lives (record t { handles = filter (λ h. not (h.1.pass == pass)) t.handles })) (shape-without_pass pass t sound.ordered sound.names) sound.grown;
 }
 

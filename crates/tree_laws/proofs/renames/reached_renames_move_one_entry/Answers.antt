@@ -1,4 +1,4 @@
-use Rattle.tree_laws.proofs.Rename.Law.{reached_renamed}
+use Rattle.tree_laws.proofs.Rename.Entry.{reached_renamed}
 use Rattle.tree_laws.proofs.renames.reached_renames_move_one_entry.Goals as goal
 
 pub returns : goal.returns

@@ -1,4 +1,4 @@
-use Rattle.tree_laws.proofs.Rename.Law.{renamed_one}
+use Rattle.tree_laws.proofs.Rename.Entry.{renamed_one}
 use Rattle.tree_laws.proofs.renames.renamed_moves_one_entry.Goals as goal
 
 pub returns : goal.returns

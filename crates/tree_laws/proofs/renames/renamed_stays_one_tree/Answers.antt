@@ -1,4 +1,4 @@
-use Rattle.tree_laws.proofs.Rename.Law.{renamed_tree}
+use Rattle.tree_laws.proofs.Rename.Entry.{renamed_tree}
 use Rattle.tree_laws.proofs.renames.renamed_stays_one_tree.Goals as goal
 
 pub returns : goal.returns
