@@ -36,7 +36,8 @@ pub fn run<S: Source, T: Sink>(alloc: Global, words: &WordList, source: &mut S, 
         → (replay_of s.left).verdict ≡ Refused place → result ≢ 1 → (result ≡ 4) ⊎ (result ≡ 3) }
 
     // What is written, where source and sink tell their bytes: with 0 and 4 the answers of the core to all calls and that
-    // of the verdict, and else a front of such an output.
+    // of the verdict, and else a front of such an output. With 0 and 4 the fields of each reply are within their rules, so
+    // that its frame is that of no other such reply.
     ensures output { (limits : Limits) (s : Stream) (before : List ℕ) → limits_of words.now ≡ Some limits
         → S.told source.old ≡ Some s → T.written sink.old ≡ Some before
         → (out : List ℕ) × (T.written sink.new ≡ Some (before ++ out)) × EndsWith limits.block_size s.left result out }

@@ -2,6 +2,7 @@
 ghost use Rattle.std.specs.Prelude.{◌≡◌, ◌<◌, ◌≤◌, ◌*◌, ◌^◌, ℕ, IsTrue, IfOk};
 ghost use Rattle.op_frames.specs.Operations.{is_op};
 ghost use Rattle.op_frames.specs.Answers.{has_short_data};
+ghost use Rattle.op_frames.specs.Replies.{is_reply};
 ghost use Rattle.op_frames.specs.Replay.{input_limit};
 ghost use Rattle.plain_tree.specs.Tree.{Tree, made_tree};
 ghost use Rattle.s3_rows.specs.Made.{made_tables};
@@ -57,6 +58,7 @@ pub fn answer(core: &mut Served, pass: u64, op: &Op, now: u64) -> Reply
     requires now { now < 2 ^ 62 }
     ensures answer { (place behind : ℕ) (whole : Tree) → Serves core.old place whole → place < behind → place ≤ input_limit
         → (next : Tree) × Serves core.new behind next × IsCoreAnswer whole (record { pass = pass; now = now; op = op.now }) result next }
+    ensures reply { IsTrue (is_reply result) }
     ensures short { IsTrue (has_short_data result) }
 {
     core.answer(pass, op, now)

@@ -10,13 +10,13 @@ pub returns-in-Ok-clause-output : goal.returns-in-Ok-clause-output
 returns-in-Ok-clause-output g c = λ s size input before out tree told is serves goes.
     let call : Request = record { pass = c.in-Ok-Call.pass; now = c.in-Ok-Call.now; op = c.in-Ok-Call.op } in
     let next = c.answer-reply.ensures.answer c.args.place c.in-Ok-Call.behind tree serves (subst (λ (x : Next). IsOnward c.args.place x) c.in-Ok-Call.field-0-is c.in-Ok-Call.ensures.onward).2 c.requires.place in
-    goes_on size input before out tree next.0 _ c.args.place c.in-Ok-Call.behind s call c.answer-reply.result c.in-Ok-Call.field-0 _ _ _ c.in-Ok-Call.field-0-is (c.in-Ok-Call.ensures.next s told) next.2 is c.in-Ok.ensures.ok goes next.1
+    goes_on size input before out tree next.0 _ c.args.place c.in-Ok-Call.behind s call c.answer-reply.result c.in-Ok-Call.field-0 _ _ _ c.in-Ok-Call.field-0-is (c.in-Ok-Call.ensures.next s told) next.2 c.answer-reply.ensures.reply is c.in-Ok.ensures.ok goes next.1
 
 pub returns-in-Ok-Call-clause-output : goal.returns-in-Ok-Call-clause-output
 returns-in-Ok-Call-clause-output g c = λ s size input before out tree told is serves goes.
     let call : Request = record { pass = c.in-Ok-Call.pass; now = c.in-Ok-Call.now; op = c.in-Ok-Call.op } in
     let next = c.answer-reply.ensures.answer c.args.place c.in-Ok-Call.behind tree serves (subst (λ (x : Next). IsOnward c.args.place x) c.in-Ok-Call.field-0-is c.in-Ok-Call.ensures.onward).2 c.requires.place in
-    answer_cut size input before out tree next.0 _ c.args.place c.in-Ok-Call.behind s call c.answer-reply.result c.in-Ok-Call.field-0 c.in-Err-put_answer.stop _ _ _ _ c.in-Ok-Call.field-0-is (c.in-Ok-Call.ensures.next s told) next.2 is c.in-Err-put_answer.ensures.err c.stopped.ensures goes
+    answer_cut size input before out tree next.0 _ c.args.place c.in-Ok-Call.behind s call c.answer-reply.result c.in-Ok-Call.field-0 c.in-Err-put_answer.stop _ _ _ _ c.in-Ok-Call.field-0-is (c.in-Ok-Call.ensures.next s told) next.2 c.answer-reply.ensures.reply is c.in-Err-put_answer.ensures.err c.stopped.ensures goes
 
 pub returns-in-Ok-End-clause-output : goal.returns-in-Ok-End-clause-output
 returns-in-Ok-End-clause-output g c = λ s size input before out tree told is serves goes.
