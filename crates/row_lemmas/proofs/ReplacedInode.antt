@@ -28,7 +28,8 @@ leads_same t rows (suc steps) id = by_case (leads_same t rows steps) (parent_of 
   where
     by_case : ((x : ℕ) → leads_to_root steps (record t { inodes = rows }) x ≡ leads_to_root steps t x)
         → (parent : Option ℕ)
-        → (id == root || elim parent [ Some x ↦ leads_to_root steps (record t { inodes = rows }) x | None ↦ false ]) ≡ (id == root || elim parent [ Some x ↦ leads_to_root steps t x | None ↦ false ])
+        → (id == root || elim parent [ Some x ↦ leads_to_root steps (record t { inodes = rows }) x | None ↦ false ])
+        ≡ (id == root || elim parent [ Some x ↦ leads_to_root steps t x | None ↦ false ])
     by_case rest None = refl
     by_case rest (Some x) = ap (λ b. id == root || b) (rest x)
 
@@ -49,7 +50,8 @@ module _ (t : Tables) (r new : Inode) (found : inode_at t new.id ≡ Some r) (ki
   ids = key_of new.id r (find_passes (has_key by_inode new.id) t.inodes r found)
 
   told_same : (g : Inode → Bool) → g new ≡ g r → (x : ℕ) → told g (inode_at u x) ≡ told g (inode_at t x)
-  told_same g same x = ap (told g) (row_at-put by_inode nat_cmp_total x new t.inodes) ∙ by_case (has_key by_inode x new) refl
+  told_same g same x =
+      ap (told g) (row_at-put by_inode nat_cmp_total x new t.inodes) ∙ by_case (has_key by_inode x new) refl
     where
       by_case : (b : Bool) → has_key by_inode x new ≡ b
           → told g (cond b (Some new) (inode_at t x)) ≡ told g (inode_at t x)
@@ -61,10 +63,12 @@ module _ (t : Tables) (r new : Inode) (found : inode_at t new.id ≡ Some r) (ki
 
   in_file_same : (p : Parameters) → new.size ≡ r.size → (inode blockno : ℕ)
       → is_in_file u p inode blockno ≡ is_in_file t p inode blockno
-  in_file_same p size inode blockno = told_same (λ y. nat_lt (blockno * p.block_size) y.size) (ap (λ n. nat_lt (blockno * p.block_size) n) size) inode
+  in_file_same p size inode blockno =
+      told_same (λ y. nat_lt (blockno * p.block_size) y.size) (ap (λ n. nat_lt (blockno * p.block_size) n) size) inode
 
   entry_same : (y : Content) → finds_of_entry u y ≡ finds_of_entry t y
-  entry_same y = λ i. (has_same is_directory y.parent) i && is_some (name_at t y.name_id) && (has_same any_kind y.inode) i
+  entry_same y =
+      λ i. (has_same is_directory y.parent) i && is_some (name_at t y.name_id) && (has_same any_kind y.inode) i
 
   inode_block_same : (y : InodeBlock) → finds_of_inode_block u y ≡ finds_of_inode_block t y
   inode_block_same y = λ i. (has_same is_regular y.inode) i && is_some (block_at t y.block)
@@ -73,56 +77,83 @@ module _ (t : Tables) (r new : Inode) (found : inode_at t new.id ≡ Some r) (ki
   attr_same y = λ i. (has_same any_kind y.inode) i && is_some (name_at t y.name_id)
 
   lost_and_found_same : (y : Content) → is_lost_and_found u y ≡ is_lost_and_found t y
-  lost_and_found_same y = λ i. y.parent == root && is_eq (bytes_cmp (bytes_of_name t y.name_id) lost_and_found) && (has_same is_directory y.inode) i
+  lost_and_found_same y =
+      λ i. y.parent == root && is_eq (bytes_cmp (bytes_of_name t y.name_id) lost_and_found) &&
+      (has_same is_directory y.inode) i
 
   -- what all rows pass, all pass after the put
   passes : (p : Inode → Bool) → p new ≡ p r → IsTrue (list_all p t.inodes)
       → IsTrue (list_all p (put by_inode new t.inodes))
-  passes p same all = list_all-put by_inode p new t.inodes (same ∙ find_passes_all (has_key by_inode new.id) p t.inodes r all found) all
+  passes p same all =
+      list_all-put by_inode p new t.inodes
+      (same ∙ find_passes_all (has_key by_inode new.id) p t.inodes r all found) all
 
   below_same : IsTrue (rises by_inode t.inodes) → (y : Inode) → is_below_root u y ≡ is_below_root t y
   below_same rise y =
-      let steps : length (put by_inode new t.inodes) ≡ length t.inodes = length-put_there by_inode nat_cmp_total new r t.inodes rise found in
+      let steps : length (put by_inode new t.inodes) ≡ length t.inodes =
+      length-put_there by_inode nat_cmp_total new r t.inodes rise found in
       let leads : leads_to_root (length (put by_inode new t.inodes)) u y.id ≡ leads_to_root (length t.inodes) t y.id =
-      leads_same t (put by_inode new t.inodes) (length (put by_inode new t.inodes)) y.id ∙ ap (λ n. leads_to_root n t y.id) steps in
+      leads_same t (put by_inode new t.inodes) (length (put by_inode new t.inodes)) y.id
+      ∙ ap (λ n. leads_to_root n t y.id) steps in
       ap (λ b. not (is_directory y.kind) || b) leads
 
   rows_kept : HasItsRows t → HasItsRows u
   rows_kept has = record {
-    entries = list_all_weaker (finds_of_entry t) (finds_of_entry u) (λ y own. entry_same y ∙ own) t.contents has.entries;
-    inode_blocks = list_all_weaker (finds_of_inode_block t) (finds_of_inode_block u) (λ y own. inode_block_same y ∙ own) t.inode_blocks has.inode_blocks;
+    entries =
+        list_all_weaker (finds_of_entry t) (finds_of_entry u) (λ y own. entry_same y ∙ own) t.contents has.entries;
+    inode_blocks =
+        list_all_weaker (finds_of_inode_block t) (finds_of_inode_block u)
+        (λ y own. inode_block_same y ∙ own) t.inode_blocks has.inode_blocks;
     objects = has.objects;
-    targets = list_all_weaker (λ y. has_inode is_link t y.inode) (λ y. has_inode is_link u y.inode) (λ y own. has_same is_link y.inode ∙ own) t.targets has.targets;
+    targets =
+        list_all_weaker (λ y. has_inode is_link t y.inode) (λ y. has_inode is_link u y.inode)
+        (λ y own. has_same is_link y.inode ∙ own) t.targets has.targets;
     links = passes (finds_target t) (λ i. not (is_link (kind i)) || is_some (target_at t (ids i))) has.links;
     attrs = list_all_weaker (finds_of_attr t) (finds_of_attr u) (λ y own. attr_same y ∙ own) t.attrs has.attrs;
-    slots = list_all_weaker (λ y. has_inode is_regular t y.inode) (λ y. has_inode is_regular u y.inode) (λ y own. has_same is_regular y.inode ∙ own) t.slots has.slots;
+    slots =
+        list_all_weaker (λ y. has_inode is_regular t y.inode) (λ y. has_inode is_regular u y.inode)
+        (λ y own. has_same is_regular y.inode ∙ own) t.slots has.slots;
   }
 
   tree_kept : IsTrue (rises by_inode t.inodes) → HasOneTree t → HasOneTree u
   tree_kept rise tree = record {
     is_rooted = has_same is_directory root ∙ tree.is_rooted;
     root_is_unnamed = tree.root_is_unnamed;
-    named_once = passes (is_named_once t) (λ i. not (is_directory (kind i)) || ids i == root || listed_inode_count t (ids i) == 1) tree.named_once;
+    named_once =
+        passes (is_named_once t)
+        (λ i. not (is_directory (kind i)) || ids i == root || listed_inode_count t (ids i) == 1) tree.named_once;
     below_root =
-        list_all_weaker (is_below_root t) (is_below_root u) (λ y own. below_same rise y ∙ own) (put by_inode new t.inodes)
-        (passes (is_below_root t) (λ i. not (is_directory (kind i)) || leads_to_root (length t.inodes) t (ids i)) tree.below_root);
+        list_all_weaker (is_below_root t) (is_below_root u) (λ y own. below_same rise y ∙ own)
+        (put by_inode new t.inodes)
+        (passes (is_below_root t)
+        (λ i. not (is_directory (kind i)) || leads_to_root (length t.inodes) t (ids i)) tree.below_root);
     legal = tree.legal;
     unlike = tree.unlike;
-    keeps_lost_and_found = list_any_weaker (is_lost_and_found t) (is_lost_and_found u) (λ y own. lost_and_found_same y ∙ own) t.contents tree.keeps_lost_and_found;
+    keeps_lost_and_found =
+        list_any_weaker (is_lost_and_found t) (is_lost_and_found u)
+        (λ y own. lost_and_found_same y ∙ own) t.contents tree.keeps_lost_and_found;
   }
 
   sizes_kept : (p : Parameters) → new.size ≡ r.size → HasItsSizes t p → HasItsSizes u p
   sizes_kept p size has = record {
     inodes = passes (has_its_size t) size_same has.inodes;
-    inode_blocks = list_all_weaker (λ y. is_in_file t p y.inode y.blockno) (λ y. is_in_file u p y.inode y.blockno) (λ y own. in_file_same p size y.inode y.blockno ∙ own) t.inode_blocks has.inode_blocks;
-    slots = list_all_weaker (λ y. is_in_file t p y.inode y.blockno) (λ y. is_in_file u p y.inode y.blockno) (λ y own. in_file_same p size y.inode y.blockno ∙ own) t.slots has.slots;
+    inode_blocks =
+        list_all_weaker (λ y. is_in_file t p y.inode y.blockno) (λ y. is_in_file u p y.inode y.blockno)
+        (λ y own. in_file_same p size y.inode y.blockno ∙ own) t.inode_blocks has.inode_blocks;
+    slots =
+        list_all_weaker (λ y. is_in_file t p y.inode y.blockno) (λ y. is_in_file u p y.inode y.blockno)
+        (λ y own. in_file_same p size y.inode y.blockno ∙ own) t.slots has.slots;
     spots = has.spots;
     numbers = has.numbers;
     lengths = has.lengths;
   }
     where
       size_same : has_its_size t new ≡ has_its_size t r
-      size_same = λ i. elim (kind i) [ kinds.Directory ↦ size i == 0 | kinds.Regular ↦ true | kinds.Link ↦ is_number (size i) (option_map (λ x. length x.target) (target_at t (ids i))) ]
+      size_same = λ i. elim (kind i) [
+        | kinds.Directory ↦ size i == 0
+        | kinds.Regular ↦ true
+        | kinds.Link ↦ is_number (size i) (option_map (λ x. length x.target) (target_at t (ids i)))
+      ]
 
   -- a regular file may have any size where no blocks lie in files
   sizes_fit : (p : Parameters) → new.kind ≡ kinds.Regular → t.inode_blocks ≡ [] → t.slots ≡ [] → HasItsSizes t p
@@ -137,7 +168,13 @@ module _ (t : Tables) (r new : Inode) (found : inode_at t new.id ≡ Some r) (ki
   }
     where
       fits : IsTrue (has_its_size t new)
-      fits = ap (λ k. elim k [ kinds.Directory ↦ new.size == 0 | kinds.Regular ↦ true | kinds.Link ↦ is_number new.size (option_map (λ x. length x.target) (target_at t new.id)) ]) regular
+      fits =
+          ap
+          (λ k. elim k [
+            | kinds.Directory ↦ new.size == 0
+            | kinds.Regular ↦ true
+            | kinds.Link ↦ is_number new.size (option_map (λ x. length x.target) (target_at t new.id))
+          ]) regular
 
   kept : (v : IsValid t) → HasItsSizes u v.params → IsValid u
   kept v sizes = record {
@@ -162,8 +199,11 @@ module _ (t : Tables) (r new : Inode) (found : inode_at t new.id ≡ Some r) (ki
     };
     rows = rows_kept v.rows;
     tree = tree_kept v.ordered.inodes v.tree;
-    orphans = passes (is_no_lost_directory t) (λ i. ids i == root || is_named t (ids i) || not (is_directory (kind i))) v.orphans;
-    blocks = record { digests = v.blocks.digests; objects = v.blocks.objects; sizes = v.blocks.sizes; within = v.blocks.within };
+    orphans =
+        passes (is_no_lost_directory t)
+        (λ i. ids i == root || is_named t (ids i) || not (is_directory (kind i))) v.orphans;
+    blocks =
+        record { digests = v.blocks.digests; objects = v.blocks.objects; sizes = v.blocks.sizes; within = v.blocks.within };
     sizes = sizes;
     free = record {
       inodes = passes (λ y. nat_lt y.id v.params.next_inode) (λ i. nat_lt (ids i) v.params.next_inode) v.free.inodes;
@@ -176,11 +216,13 @@ module _ (t : Tables) (r new : Inode) (found : inode_at t new.id ≡ Some r) (ki
 -- a put that replaces a row by one of the same kind, count and size leaves tables valid
 pub replaced_valid : (t : Tables) (r new : Inode) → IsValid t → inode_at t new.id ≡ Some r → new.kind ≡ r.kind
     → new.refcount ≡ r.refcount → new.size ≡ r.size → IsValid (after_change (changes.PutInode new) t)
-replaced_valid t r new valid found kind refcount size = kept t r new found kind refcount valid (sizes_kept t r new found kind refcount valid.params size valid.sizes)
+replaced_valid t r new valid found kind refcount size =
+    kept t r new found kind refcount valid (sizes_kept t r new found kind refcount valid.params size valid.sizes)
 
 -- and so does one of a regular file of another size, where no blocks lie in files
 pub resized_valid : (t : Tables) (r new : Inode) → IsValid t → inode_at t new.id ≡ Some r → new.kind ≡ r.kind
     → new.refcount ≡ r.refcount → new.kind ≡ kinds.Regular → t.inode_blocks ≡ [] → t.slots ≡ []
     → IsValid (after_change (changes.PutInode new) t)
 resized_valid t r new valid found kind refcount regular no_blocks no_slots =
-    kept t r new found kind refcount valid (sizes_fit t r new found kind refcount valid.params regular no_blocks no_slots valid.sizes)
+    kept t r new found kind refcount valid
+    (sizes_fit t r new found kind refcount valid.params regular no_blocks no_slots valid.sizes)

@@ -10,12 +10,14 @@ use Rattle.row_lemmas.proofs.Tests.{false_from_not}
 
 pub sum_by-map : {X Y : Type 0} (f : Y → ℕ) (g : X → Y) (xs : List X) → sum_by f (map g xs) ≡ sum_by (λ x. f (g x)) xs
 sum_by-map f g [] = refl
-sum_by-map f g (x ∷ xs) = sum_by-cons f (g x) (map g xs) ∙ ap (λ n. f (g x) + n) (sum_by-map f g xs) ∙ sym (sum_by-cons (λ y. f (g y)) x xs)
+sum_by-map f g (x ∷ xs) =
+    sum_by-cons f (g x) (map g xs) ∙ ap (λ n. f (g x) + n) (sum_by-map f g xs) ∙ sym (sum_by-cons (λ y. f (g y)) x xs)
 
 pub sum_by_agree : {X : Type 0} (f g : X → ℕ) (xs : List X) → AllByRecursion (λ x. f x ≡ g x) xs
     → sum_by f xs ≡ sum_by g xs
 sum_by_agree f g [] same = refl
-sum_by_agree f g (x ∷ xs) same = omega (arith, sum_by-cons f x xs, sum_by-cons g x xs, sum_by_agree f g xs same.1, same.0)
+sum_by_agree f g (x ∷ xs) same =
+    omega (arith, sum_by-cons f x xs, sum_by-cons g x xs, sum_by_agree f g xs same.1, same.0)
 
 sum_by_none : {X : Type 0} (xs : List X) → sum_by (λ x. 0) xs ≡ 0
 sum_by_none [] = refl
@@ -25,7 +27,8 @@ sum_by_none {X} (x ∷ xs) =
 
 sum_by_plus : {X : Type 0} (f g : X → ℕ) (xs : List X) → sum_by (λ x. f x + g x) xs ≡ sum_by f xs + sum_by g xs
 sum_by_plus f g [] = refl
-sum_by_plus f g (x ∷ xs) = omega (arith, sum_by-cons (λ y. f y + g y) x xs, sum_by-cons f x xs, sum_by-cons g x xs, sum_by_plus f g xs)
+sum_by_plus f g (x ∷ xs) =
+    omega (arith, sum_by-cons (λ y. f y + g y) x xs, sum_by-cons f x xs, sum_by-cons g x xs, sum_by_plus f g xs)
 
 -- row by row or column by column
 pub sum_by_comm : {X Y : Type 0} (f : X → Y → ℕ) (xs : List X) (ys : List Y)
@@ -33,7 +36,8 @@ pub sum_by_comm : {X Y : Type 0} (f : X → Y → ℕ) (xs : List X) (ys : List 
 sum_by_comm f [] ys = sym (sum_by_none ys)
 sum_by_comm {X} {Y} f (x ∷ xs) ys =
     let rest : Y → ℕ = λ y. sum_by (λ z. f z y) xs in
-    sum_by-cons (λ z. sum_by (f z) ys) x xs ∙ ap (λ n. sum_by (f x) ys + n) (sum_by_comm f xs ys) ∙ sym (sum_by_plus (f x) rest ys)
+    sum_by-cons (λ z. sum_by (f z) ys) x xs ∙ ap (λ n. sum_by (f x) ys + n) (sum_by_comm f xs ys)
+    ∙ sym (sum_by_plus (f x) rest ys)
     ∙ sym (sum_by_agree (λ y. sum_by (λ z. f z y) (x ∷ xs)) (λ y. f x y + rest y) ys (each ys))
   where
     each : (ys : List _) → AllByRecursion (λ y. sum_by (λ z. f z y) (x ∷ xs) ≡ f x y + sum_by (λ z. f z y) xs) ys
@@ -53,8 +57,10 @@ pub count_by_none : {R : Type 0} (p : R → Bool) (rows : List R) → IsTrue (li
 count_by_none p [] none = refl
 count_by_none {R} p (r ∷ rs) none =
     let one : R → ℕ = λ x. cond (p x) 1 0 in
-    let parts : IsTrue (not (p r)) × IsTrue (list_all (λ x. not (p x)) rs) = and_parts (not (p r)) (list_all (λ x. not (p x)) rs) none in
-    sum_by-cons one r rs ∙ ap (λ b. cond b 1 0 + count_by p rs) (false_from_not (p r) parts.0) ∙ omega (arith, count_by_none p rs parts.1)
+    let parts : IsTrue (not (p r)) × IsTrue (list_all (λ x. not (p x)) rs) =
+    and_parts (not (p r)) (list_all (λ x. not (p x)) rs) none in
+    sum_by-cons one r rs ∙ ap (λ b. cond b 1 0 + count_by p rs) (false_from_not (p r) parts.0)
+    ∙ omega (arith, count_by_none p rs parts.1)
 
 -- where nothing is counted, nothing passes
 pub list_any_from_count_by : {R : Type 0} (p : R → Bool) (rows : List R) → count_by p rows ≡ 0

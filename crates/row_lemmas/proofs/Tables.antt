@@ -14,7 +14,8 @@ use Rattle.row_lemmas.proofs.Keyed.Rises.{rises-without}
 use Rattle.row_lemmas.proofs.Keyed.Without.{without-without, without_none}
 
 pub pair_cmp_total : IsTotalOrder pair_cmp
-pair_cmp_total = then_total (on_total (λ (p : ℕ × ℕ). p.0) nat_cmp_total) (on_total (λ (p : ℕ × ℕ). p.1) nat_cmp_total)
+pair_cmp_total =
+    then_total (on_total (λ (p : ℕ × ℕ). p.0) nat_cmp_total) (on_total (λ (p : ℕ × ℕ). p.1) nat_cmp_total)
 
 pub tables_after-tables_after : (first second : List Change) (t : Tables)
     → tables_after second (tables_after first t) ≡ tables_after (first ++ second) t
@@ -23,99 +24,237 @@ tables_after-tables_after (c ∷ cs) second t = tables_after-tables_after cs sec
 
 pub after_change-after_change : (change : Change) (t : Tables)
     → after_change change (after_change change t) ≡ after_change change t
-after_change-after_change (changes.PutInode r) t = ap (λ rows. record t { inodes = rows }) (put-put by_inode nat_cmp_total r t.inodes)
-after_change-after_change (changes.DeleteInode id) t = ap (λ rows. record t { inodes = rows }) (without-without by_inode id t.inodes)
-after_change-after_change (changes.PutName r) t = ap (λ rows. record t { names = rows }) (put-put by_name nat_cmp_total r t.names)
-after_change-after_change (changes.DeleteName id) t = ap (λ rows. record t { names = rows }) (without-without by_name id t.names)
-after_change-after_change (changes.PutContent r) t = ap (λ rows. record t { contents = rows }) (put-put by_entry pair_cmp_total r t.contents)
-after_change-after_change (changes.DeleteContent parent name_id) t = ap (λ rows. record t { contents = rows }) (without-without by_entry (parent, name_id) t.contents)
-after_change-after_change (changes.PutInodeBlock r) t = ap (λ rows. record t { inode_blocks = rows }) (put-put by_spot pair_cmp_total r t.inode_blocks)
-after_change-after_change (changes.DeleteInodeBlock inode blockno) t = ap (λ rows. record t { inode_blocks = rows }) (without-without by_spot (inode, blockno) t.inode_blocks)
-after_change-after_change (changes.PutBlock r) t = ap (λ rows. record t { blocks = rows }) (put-put by_block nat_cmp_total r t.blocks)
-after_change-after_change (changes.DeleteBlock id) t = ap (λ rows. record t { blocks = rows }) (without-without by_block id t.blocks)
-after_change-after_change (changes.PutObject r) t = ap (λ rows. record t { objects = rows }) (put-put by_object nat_cmp_total r t.objects)
-after_change-after_change (changes.DeleteObject id) t = ap (λ rows. record t { objects = rows }) (without-without by_object id t.objects)
-after_change-after_change (changes.PutTarget r) t = ap (λ rows. record t { targets = rows }) (put-put by_target nat_cmp_total r t.targets)
-after_change-after_change (changes.DeleteTarget inode) t = ap (λ rows. record t { targets = rows }) (without-without by_target inode t.targets)
-after_change-after_change (changes.PutAttr r) t = ap (λ rows. record t { attrs = rows }) (put-put by_attr pair_cmp_total r t.attrs)
-after_change-after_change (changes.DeleteAttr inode name_id) t = ap (λ rows. record t { attrs = rows }) (without-without by_attr (inode, name_id) t.attrs)
-after_change-after_change (changes.PutSlot r) t = ap (λ rows. record t { slots = rows }) (put-put by_slot nat_cmp_total r t.slots)
-after_change-after_change (changes.DeleteSlot slot) t = ap (λ rows. record t { slots = rows }) (without-without by_slot slot t.slots)
+after_change-after_change (changes.PutInode r) t =
+    ap (λ rows. record t { inodes = rows }) (put-put by_inode nat_cmp_total r t.inodes)
+after_change-after_change (changes.DeleteInode id) t =
+    ap (λ rows. record t { inodes = rows }) (without-without by_inode id t.inodes)
+after_change-after_change (changes.PutName r) t =
+    ap (λ rows. record t { names = rows }) (put-put by_name nat_cmp_total r t.names)
+after_change-after_change (changes.DeleteName id) t =
+    ap (λ rows. record t { names = rows }) (without-without by_name id t.names)
+after_change-after_change (changes.PutContent r) t =
+    ap (λ rows. record t { contents = rows }) (put-put by_entry pair_cmp_total r t.contents)
+after_change-after_change (changes.DeleteContent parent name_id) t =
+    ap (λ rows. record t { contents = rows }) (without-without by_entry (parent, name_id) t.contents)
+after_change-after_change (changes.PutInodeBlock r) t =
+    ap (λ rows. record t { inode_blocks = rows }) (put-put by_spot pair_cmp_total r t.inode_blocks)
+after_change-after_change (changes.DeleteInodeBlock inode blockno) t =
+    ap (λ rows. record t { inode_blocks = rows }) (without-without by_spot (inode, blockno) t.inode_blocks)
+after_change-after_change (changes.PutBlock r) t =
+    ap (λ rows. record t { blocks = rows }) (put-put by_block nat_cmp_total r t.blocks)
+after_change-after_change (changes.DeleteBlock id) t =
+    ap (λ rows. record t { blocks = rows }) (without-without by_block id t.blocks)
+after_change-after_change (changes.PutObject r) t =
+    ap (λ rows. record t { objects = rows }) (put-put by_object nat_cmp_total r t.objects)
+after_change-after_change (changes.DeleteObject id) t =
+    ap (λ rows. record t { objects = rows }) (without-without by_object id t.objects)
+after_change-after_change (changes.PutTarget r) t =
+    ap (λ rows. record t { targets = rows }) (put-put by_target nat_cmp_total r t.targets)
+after_change-after_change (changes.DeleteTarget inode) t =
+    ap (λ rows. record t { targets = rows }) (without-without by_target inode t.targets)
+after_change-after_change (changes.PutAttr r) t =
+    ap (λ rows. record t { attrs = rows }) (put-put by_attr pair_cmp_total r t.attrs)
+after_change-after_change (changes.DeleteAttr inode name_id) t =
+    ap (λ rows. record t { attrs = rows }) (without-without by_attr (inode, name_id) t.attrs)
+after_change-after_change (changes.PutSlot r) t =
+    ap (λ rows. record t { slots = rows }) (put-put by_slot nat_cmp_total r t.slots)
+after_change-after_change (changes.DeleteSlot slot) t =
+    ap (λ rows. record t { slots = rows }) (without-without by_slot slot t.slots)
 after_change-after_change (changes.SetParams p) t = refl
 
 -- ---- one table in order, and the others as before
 
 with_inodes : (t : Tables) (rows : List Inode) → IsTrue (rises by_inode rows) → IsOrdered t
     → IsOrdered (record t { inodes = rows })
-with_inodes t rows rise o = record { inodes = rise; names = o.names; contents = o.contents; inode_blocks = o.inode_blocks; blocks = o.blocks; objects = o.objects; targets = o.targets; attrs = o.attrs; slots = o.slots }
+with_inodes t rows rise o = record {
+  inodes = rise;
+  names = o.names;
+  contents = o.contents;
+  inode_blocks = o.inode_blocks;
+  blocks = o.blocks;
+  objects = o.objects;
+  targets = o.targets;
+  attrs = o.attrs;
+  slots = o.slots;
+}
 
 with_names : (t : Tables) (rows : List Name) → IsTrue (rises by_name rows) → IsOrdered t
     → IsOrdered (record t { names = rows })
-with_names t rows rise o = record { inodes = o.inodes; names = rise; contents = o.contents; inode_blocks = o.inode_blocks; blocks = o.blocks; objects = o.objects; targets = o.targets; attrs = o.attrs; slots = o.slots }
+with_names t rows rise o = record {
+  inodes = o.inodes;
+  names = rise;
+  contents = o.contents;
+  inode_blocks = o.inode_blocks;
+  blocks = o.blocks;
+  objects = o.objects;
+  targets = o.targets;
+  attrs = o.attrs;
+  slots = o.slots;
+}
 
 with_contents : (t : Tables) (rows : List Content) → IsTrue (rises by_entry rows) → IsOrdered t
     → IsOrdered (record t { contents = rows })
-with_contents t rows rise o = record { inodes = o.inodes; names = o.names; contents = rise; inode_blocks = o.inode_blocks; blocks = o.blocks; objects = o.objects; targets = o.targets; attrs = o.attrs; slots = o.slots }
+with_contents t rows rise o = record {
+  inodes = o.inodes;
+  names = o.names;
+  contents = rise;
+  inode_blocks = o.inode_blocks;
+  blocks = o.blocks;
+  objects = o.objects;
+  targets = o.targets;
+  attrs = o.attrs;
+  slots = o.slots;
+}
 
 with_inode_blocks : (t : Tables) (rows : List InodeBlock) → IsTrue (rises by_spot rows) → IsOrdered t
     → IsOrdered (record t { inode_blocks = rows })
-with_inode_blocks t rows rise o = record { inodes = o.inodes; names = o.names; contents = o.contents; inode_blocks = rise; blocks = o.blocks; objects = o.objects; targets = o.targets; attrs = o.attrs; slots = o.slots }
+with_inode_blocks t rows rise o = record {
+  inodes = o.inodes;
+  names = o.names;
+  contents = o.contents;
+  inode_blocks = rise;
+  blocks = o.blocks;
+  objects = o.objects;
+  targets = o.targets;
+  attrs = o.attrs;
+  slots = o.slots;
+}
 
 with_blocks : (t : Tables) (rows : List Block) → IsTrue (rises by_block rows) → IsOrdered t
     → IsOrdered (record t { blocks = rows })
-with_blocks t rows rise o = record { inodes = o.inodes; names = o.names; contents = o.contents; inode_blocks = o.inode_blocks; blocks = rise; objects = o.objects; targets = o.targets; attrs = o.attrs; slots = o.slots }
+with_blocks t rows rise o = record {
+  inodes = o.inodes;
+  names = o.names;
+  contents = o.contents;
+  inode_blocks = o.inode_blocks;
+  blocks = rise;
+  objects = o.objects;
+  targets = o.targets;
+  attrs = o.attrs;
+  slots = o.slots;
+}
 
 with_objects : (t : Tables) (rows : List Object) → IsTrue (rises by_object rows) → IsOrdered t
     → IsOrdered (record t { objects = rows })
-with_objects t rows rise o = record { inodes = o.inodes; names = o.names; contents = o.contents; inode_blocks = o.inode_blocks; blocks = o.blocks; objects = rise; targets = o.targets; attrs = o.attrs; slots = o.slots }
+with_objects t rows rise o = record {
+  inodes = o.inodes;
+  names = o.names;
+  contents = o.contents;
+  inode_blocks = o.inode_blocks;
+  blocks = o.blocks;
+  objects = rise;
+  targets = o.targets;
+  attrs = o.attrs;
+  slots = o.slots;
+}
 
 with_targets : (t : Tables) (rows : List Target) → IsTrue (rises by_target rows) → IsOrdered t
     → IsOrdered (record t { targets = rows })
-with_targets t rows rise o = record { inodes = o.inodes; names = o.names; contents = o.contents; inode_blocks = o.inode_blocks; blocks = o.blocks; objects = o.objects; targets = rise; attrs = o.attrs; slots = o.slots }
+with_targets t rows rise o = record {
+  inodes = o.inodes;
+  names = o.names;
+  contents = o.contents;
+  inode_blocks = o.inode_blocks;
+  blocks = o.blocks;
+  objects = o.objects;
+  targets = rise;
+  attrs = o.attrs;
+  slots = o.slots;
+}
 
 with_attrs : (t : Tables) (rows : List Attr) → IsTrue (rises by_attr rows) → IsOrdered t
     → IsOrdered (record t { attrs = rows })
-with_attrs t rows rise o = record { inodes = o.inodes; names = o.names; contents = o.contents; inode_blocks = o.inode_blocks; blocks = o.blocks; objects = o.objects; targets = o.targets; attrs = rise; slots = o.slots }
+with_attrs t rows rise o = record {
+  inodes = o.inodes;
+  names = o.names;
+  contents = o.contents;
+  inode_blocks = o.inode_blocks;
+  blocks = o.blocks;
+  objects = o.objects;
+  targets = o.targets;
+  attrs = rise;
+  slots = o.slots;
+}
 
 with_slots : (t : Tables) (rows : List Slot) → IsTrue (rises by_slot rows) → IsOrdered t
     → IsOrdered (record t { slots = rows })
-with_slots t rows rise o = record { inodes = o.inodes; names = o.names; contents = o.contents; inode_blocks = o.inode_blocks; blocks = o.blocks; objects = o.objects; targets = o.targets; attrs = o.attrs; slots = rise }
+with_slots t rows rise o = record {
+  inodes = o.inodes;
+  names = o.names;
+  contents = o.contents;
+  inode_blocks = o.inode_blocks;
+  blocks = o.blocks;
+  objects = o.objects;
+  targets = o.targets;
+  attrs = o.attrs;
+  slots = rise;
+}
 
 pub IsOrdered-after_change : (change : Change) (t : Tables) → IsOrdered t → IsOrdered (after_change change t)
-IsOrdered-after_change (changes.PutInode r) t o = with_inodes t _ (rises-put by_inode nat_cmp_total r t.inodes o.inodes) o
+IsOrdered-after_change (changes.PutInode r) t o =
+    with_inodes t _ (rises-put by_inode nat_cmp_total r t.inodes o.inodes) o
 IsOrdered-after_change (changes.DeleteInode id) t o = with_inodes t _ (rises-without by_inode id t.inodes o.inodes) o
 IsOrdered-after_change (changes.PutName r) t o = with_names t _ (rises-put by_name nat_cmp_total r t.names o.names) o
 IsOrdered-after_change (changes.DeleteName id) t o = with_names t _ (rises-without by_name id t.names o.names) o
-IsOrdered-after_change (changes.PutContent r) t o = with_contents t _ (rises-put by_entry pair_cmp_total r t.contents o.contents) o
-IsOrdered-after_change (changes.DeleteContent parent name_id) t o = with_contents t _ (rises-without by_entry (parent, name_id) t.contents o.contents) o
-IsOrdered-after_change (changes.PutInodeBlock r) t o = with_inode_blocks t _ (rises-put by_spot pair_cmp_total r t.inode_blocks o.inode_blocks) o
-IsOrdered-after_change (changes.DeleteInodeBlock inode blockno) t o = with_inode_blocks t _ (rises-without by_spot (inode, blockno) t.inode_blocks o.inode_blocks) o
-IsOrdered-after_change (changes.PutBlock r) t o = with_blocks t _ (rises-put by_block nat_cmp_total r t.blocks o.blocks) o
+IsOrdered-after_change (changes.PutContent r) t o =
+    with_contents t _ (rises-put by_entry pair_cmp_total r t.contents o.contents) o
+IsOrdered-after_change (changes.DeleteContent parent name_id) t o =
+    with_contents t _ (rises-without by_entry (parent, name_id) t.contents o.contents) o
+IsOrdered-after_change (changes.PutInodeBlock r) t o =
+    with_inode_blocks t _ (rises-put by_spot pair_cmp_total r t.inode_blocks o.inode_blocks) o
+IsOrdered-after_change (changes.DeleteInodeBlock inode blockno) t o =
+    with_inode_blocks t _ (rises-without by_spot (inode, blockno) t.inode_blocks o.inode_blocks) o
+IsOrdered-after_change (changes.PutBlock r) t o =
+    with_blocks t _ (rises-put by_block nat_cmp_total r t.blocks o.blocks) o
 IsOrdered-after_change (changes.DeleteBlock id) t o = with_blocks t _ (rises-without by_block id t.blocks o.blocks) o
-IsOrdered-after_change (changes.PutObject r) t o = with_objects t _ (rises-put by_object nat_cmp_total r t.objects o.objects) o
-IsOrdered-after_change (changes.DeleteObject id) t o = with_objects t _ (rises-without by_object id t.objects o.objects) o
-IsOrdered-after_change (changes.PutTarget r) t o = with_targets t _ (rises-put by_target nat_cmp_total r t.targets o.targets) o
-IsOrdered-after_change (changes.DeleteTarget inode) t o = with_targets t _ (rises-without by_target inode t.targets o.targets) o
+IsOrdered-after_change (changes.PutObject r) t o =
+    with_objects t _ (rises-put by_object nat_cmp_total r t.objects o.objects) o
+IsOrdered-after_change (changes.DeleteObject id) t o =
+    with_objects t _ (rises-without by_object id t.objects o.objects) o
+IsOrdered-after_change (changes.PutTarget r) t o =
+    with_targets t _ (rises-put by_target nat_cmp_total r t.targets o.targets) o
+IsOrdered-after_change (changes.DeleteTarget inode) t o =
+    with_targets t _ (rises-without by_target inode t.targets o.targets) o
 IsOrdered-after_change (changes.PutAttr r) t o = with_attrs t _ (rises-put by_attr pair_cmp_total r t.attrs o.attrs) o
-IsOrdered-after_change (changes.DeleteAttr inode name_id) t o = with_attrs t _ (rises-without by_attr (inode, name_id) t.attrs o.attrs) o
+IsOrdered-after_change (changes.DeleteAttr inode name_id) t o =
+    with_attrs t _ (rises-without by_attr (inode, name_id) t.attrs o.attrs) o
 IsOrdered-after_change (changes.PutSlot r) t o = with_slots t _ (rises-put by_slot nat_cmp_total r t.slots o.slots) o
 IsOrdered-after_change (changes.DeleteSlot slot) t o = with_slots t _ (rises-without by_slot slot t.slots o.slots) o
-IsOrdered-after_change (changes.SetParams p) t o = record { inodes = o.inodes; names = o.names; contents = o.contents; inode_blocks = o.inode_blocks; blocks = o.blocks; objects = o.objects; targets = o.targets; attrs = o.attrs; slots = o.slots }
+IsOrdered-after_change (changes.SetParams p) t o = record {
+  inodes = o.inodes;
+  names = o.names;
+  contents = o.contents;
+  inode_blocks = o.inode_blocks;
+  blocks = o.blocks;
+  objects = o.objects;
+  targets = o.targets;
+  attrs = o.attrs;
+  slots = o.slots;
+}
 
 pub IsOrdered-tables_after : (batch : List Change) (t : Tables) → IsOrdered t → IsOrdered (tables_after batch t)
 IsOrdered-tables_after [] t o = o
 IsOrdered-tables_after (c ∷ cs) t o = IsOrdered-tables_after cs (after_change c t) (IsOrdered-after_change c t o)
 
 pub after_change_none : (change : Change) (t : Tables) → finds_row change t ≡ false → after_change change t ≡ t
-after_change_none (changes.DeleteInode id) t none = ap (λ rows. record t { inodes = rows }) (without_none by_inode id t.inodes none)
-after_change_none (changes.DeleteName id) t none = ap (λ rows. record t { names = rows }) (without_none by_name id t.names none)
-after_change_none (changes.DeleteContent parent name_id) t none = ap (λ rows. record t { contents = rows }) (without_none by_entry (parent, name_id) t.contents none)
-after_change_none (changes.DeleteInodeBlock inode blockno) t none = ap (λ rows. record t { inode_blocks = rows }) (without_none by_spot (inode, blockno) t.inode_blocks none)
-after_change_none (changes.DeleteBlock id) t none = ap (λ rows. record t { blocks = rows }) (without_none by_block id t.blocks none)
-after_change_none (changes.DeleteObject id) t none = ap (λ rows. record t { objects = rows }) (without_none by_object id t.objects none)
-after_change_none (changes.DeleteTarget inode) t none = ap (λ rows. record t { targets = rows }) (without_none by_target inode t.targets none)
-after_change_none (changes.DeleteAttr inode name_id) t none = ap (λ rows. record t { attrs = rows }) (without_none by_attr (inode, name_id) t.attrs none)
-after_change_none (changes.DeleteSlot slot) t none = ap (λ rows. record t { slots = rows }) (without_none by_slot slot t.slots none)
+after_change_none (changes.DeleteInode id) t none =
+    ap (λ rows. record t { inodes = rows }) (without_none by_inode id t.inodes none)
+after_change_none (changes.DeleteName id) t none =
+    ap (λ rows. record t { names = rows }) (without_none by_name id t.names none)
+after_change_none (changes.DeleteContent parent name_id) t none =
+    ap (λ rows. record t { contents = rows }) (without_none by_entry (parent, name_id) t.contents none)
+after_change_none (changes.DeleteInodeBlock inode blockno) t none =
+    ap (λ rows. record t { inode_blocks = rows }) (without_none by_spot (inode, blockno) t.inode_blocks none)
+after_change_none (changes.DeleteBlock id) t none =
+    ap (λ rows. record t { blocks = rows }) (without_none by_block id t.blocks none)
+after_change_none (changes.DeleteObject id) t none =
+    ap (λ rows. record t { objects = rows }) (without_none by_object id t.objects none)
+after_change_none (changes.DeleteTarget inode) t none =
+    ap (λ rows. record t { targets = rows }) (without_none by_target inode t.targets none)
+after_change_none (changes.DeleteAttr inode name_id) t none =
+    ap (λ rows. record t { attrs = rows }) (without_none by_attr (inode, name_id) t.attrs none)
+after_change_none (changes.DeleteSlot slot) t none =
+    ap (λ rows. record t { slots = rows }) (without_none by_slot slot t.slots none)
 after_change_none _ t none = absurd (cc none)
 
 -- ---- what a keeper tells after batches
@@ -130,5 +269,6 @@ pub commits-with_batches : (s : Told) (batches : List (List Change)) → s.commi
 commits-with_batches s [] few = omega arith
 commits-with_batches s (b ∷ bs) few =
     let later : one_more s.commits + length bs < 2 ^ 64 = omega (arith, few) in
-    let rest : (with_batches bs (with_batch b s)).commits ≡ one_more s.commits + length bs = commits-with_batches (with_batch b s) bs later in
+    let rest : (with_batches bs (with_batch b s)).commits ≡ one_more s.commits + length bs =
+    commits-with_batches (with_batch b s) bs later in
     omega (arith, few, rest)

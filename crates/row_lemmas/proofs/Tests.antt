@@ -157,7 +157,8 @@ list_any-find p (r ∷ rs) = by_case (list_any-find p rs) (p r)
 pub list_any_from_find : {R : Type 0} (p q : R → Bool) (rows : List R) (x : R) → find p rows ≡ Some x → IsTrue (q x)
     → IsTrue (list_any q rows)
 list_any_from_find p q [] x is passes = absurd (cc is)
-list_any_from_find p q (r ∷ rs) x is passes = by_case (λ found. list_any_from_find p q rs x found passes) (p r) is (q r) refl
+list_any_from_find p q (r ∷ rs) x is passes =
+    by_case (λ found. list_any_from_find p q rs x found passes) (p r) is (q r) refl
   where
     by_case : (find p rs ≡ Some x → IsTrue (list_any q rs)) → (b : Bool) → cond b (Some r) (find p rs) ≡ Some x
         → (c : Bool) → q r ≡ c → IsTrue (c || list_any q rs)
@@ -202,7 +203,8 @@ list_all_from_list_any p rows none = by_case (find p rows) refl
     by_case : (found : Option _) → find p rows ≡ found → IsTrue (list_all (λ r. not (p r)) rows)
     by_case None is = list_all_from_find p rows is
     by_case (Some x) is =
-        let clash : true ≡ false = ap is_some (sym is) ∙ sym (list_any-find p rows) ∙ false_from_not (list_any p rows) none in
+        let clash : true ≡ false =
+        ap is_some (sym is) ∙ sym (list_any-find p rows) ∙ false_from_not (list_any p rows) none in
         absurd (cc clash)
 
 -- ---- filter
@@ -230,7 +232,8 @@ pub filter_map-filter_agree : {R X : Type 0} (f g : R → Option X) (q p : R →
     → ((x : R) → IsTrue (p x) → f x ≡ g x) → IsTrue (list_all p rows)
     → filter_map f (filter q rows) ≡ filter_map g (filter q rows)
 filter_map-filter_agree f g q p [] same all = refl
-filter_map-filter_agree {R} {X} f g q p (x ∷ xs) same all = by_case (filter_map-filter_agree f g q p xs same parts.1) (same x parts.0) (q x)
+filter_map-filter_agree {R} {X} f g q p (x ∷ xs) same all =
+    by_case (filter_map-filter_agree f g q p xs same parts.1) (same x parts.0) (q x)
   where
     parts : IsTrue (p x) × IsTrue (list_all p xs)
     parts = and_parts (p x) (list_all p xs) all
@@ -256,7 +259,8 @@ pub differ_agree : {R : Type 0} (good : R → Bool) (f g : R → R → Bool)
 differ_agree good f g same [] all = refl
 differ_agree good f g same (r ∷ rs) all =
     let parts : IsTrue (good r) × IsTrue (list_all good rs) = and_parts (good r) (list_all good rs) all in
-    λ i. not (list_any_agree good (f r) (g r) (λ x. same r x parts.0) rs parts.1 i) && differ_agree good f g same rs parts.1 i
+    λ i. not (list_any_agree good (f r) (g r)
+    (λ x. same r x parts.0) rs parts.1 i) && differ_agree good f g same rs parts.1 i
 
 -- rows that are told apart by a part of them
 pub differ-map : {R X : Type 0} (alike : X → X → Bool) (f : R → X) (rows : List R)

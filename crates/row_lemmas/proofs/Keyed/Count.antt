@@ -22,7 +22,8 @@ module _ {K R : Type 0} (o : Order K R) where
     where
       by_case : (is_some (row_at o (o.key r) xs) ≡ false → sum_by f (put o r xs) ≡ f r + sum_by f xs) → (c : Ordering)
           → is_some (cond (is_eq c) (Some x) (row_at o (o.key r) xs)) ≡ false
-          → sum_by f (elim c [ Less ↦ r ∷ x ∷ xs | Equal ↦ r ∷ xs | Greater ↦ x ∷ put o r xs ]) ≡ f r + sum_by f (x ∷ xs)
+          → sum_by f (elim c [ Less ↦ r ∷ x ∷ xs | Equal ↦ r ∷ xs | Greater ↦ x ∷ put o r xs ])
+          ≡ f r + sum_by f (x ∷ xs)
       by_case others Less none = sum_by-cons f r (x ∷ xs)
       by_case others Equal none = absurd (cc none)
       by_case others Greater none = omega (arith, others none, sum_by-cons f x (put o r xs), sum_by-cons f x xs)
@@ -38,7 +39,8 @@ module _ {K R : Type 0} (o : Order K R) where
   pub count_by-has_key_there : IsTotalOrder o.compare → (k : K) (rows : List R) → IsTrue (rises o rows)
       → IsTrue (is_some (row_at o k rows)) → count_by (has_key o k) rows ≡ 1
   count_by-has_key_there total k [] up there = absurd (cc there)
-  count_by-has_key_there total k (x ∷ xs) up there = by_case (count_by-has_key_there total k xs (rises_tail o x xs up)) (o.compare k (o.key x)) refl there
+  count_by-has_key_there total k (x ∷ xs) up there =
+      by_case (count_by-has_key_there total k xs (rises_tail o x xs up)) (o.compare k (o.key x)) refl there
     where
       one : R → ℕ
       one r = cond (has_key o k r) 1 0
@@ -48,30 +50,38 @@ module _ {K R : Type 0} (o : Order K R) where
 
       counted : (b : Bool) (n : ℕ) → has_key o k x ≡ b → count_by (has_key o k) xs ≡ n
           → count_by (has_key o k) (x ∷ xs) ≡ cond b 1 0 + n
-      counted b n is rest = sum_by-cons one x xs ∙ ap (λ c. cond c 1 0 + count_by (has_key o k) xs) is ∙ ap (λ m. cond b 1 0 + m) rest
+      counted b n is rest =
+          sum_by-cons one x xs ∙ ap (λ c. cond c 1 0 + count_by (has_key o k) xs) is ∙ ap (λ m. cond b 1 0 + m) rest
 
       by_case : (IsTrue (is_some (row_at o k xs)) → count_by (has_key o k) xs ≡ 1) → (c : Ordering)
           → o.compare k (o.key x) ≡ c
           → IsTrue (is_some (cond (is_eq c) (Some x) (row_at o k xs))) → count_by (has_key o k) (x ∷ xs) ≡ 1
       by_case others Less is found = counted false 1 (ap is_eq is) (others found)
-      by_case others Equal is found = counted true 0 (ap is_eq is) (count_by_none (has_key o k) xs (list_all_weaker (is_past o k) (λ r. not (has_key o k r)) apart xs (rises_behind o total k x xs up is)))
+      by_case others Equal is found =
+          counted true 0 (ap is_eq is)
+          (count_by_none (has_key o k) xs
+          (list_all_weaker (is_past o k) (λ r. not (has_key o k r)) apart xs (rises_behind o total k x xs up is)))
       by_case others Greater is found = counted false 1 (ap is_eq is) (others found)
 
   module _ (total : IsTotalOrder o.compare) where
     -- a delete takes the row's part from a sum
-    pub sum_by-without_there : (f : R → ℕ) (k : K) (r : R) (rows : List R) → IsTrue (rises o rows) → row_at o k rows ≡ Some r
+    pub sum_by-without_there : (f : R → ℕ) (k : K) (r : R) (rows : List R) → IsTrue (rises o rows)
+        → row_at o k rows ≡ Some r
         → f r + sum_by f (without o k rows) ≡ sum_by f rows
     sum_by-without_there f k r [] up there = absurd (cc there)
     sum_by-without_there f k r (x ∷ xs) up there =
         by_case (sum_by-without_there f k r xs (rises_tail o x xs up)) (has_key o k x) refl there
       where
-        by_case : (row_at o k xs ≡ Some r → f r + sum_by f (without o k xs) ≡ sum_by f xs) → (b : Bool) → has_key o k x ≡ b
+        by_case : (row_at o k xs ≡ Some r → f r + sum_by f (without o k xs) ≡ sum_by f xs) → (b : Bool)
+            → has_key o k x ≡ b
             → cond b (Some x) (row_at o k xs) ≡ Some r
             → f r + sum_by f (cond (not b) (x ∷ without o k xs) (without o k xs)) ≡ sum_by f (x ∷ xs)
         by_case others true own found =
             let same : x ≡ r = cc found in
-            let none : row_at o k xs ≡ None = row_at_behind o total k x xs up (equal_from_is_eq (o.compare k (o.key x)) own) in
-            ap (λ ys. f r + sum_by f ys) (without_none o k xs (ap is_some none)) ∙ ap (λ y. f y + sum_by f xs) (sym same)
+            let none : row_at o k xs ≡ None =
+            row_at_behind o total k x xs up (equal_from_is_eq (o.compare k (o.key x)) own) in
+            ap (λ ys. f r + sum_by f ys) (without_none o k xs (ap is_some none))
+            ∙ ap (λ y. f y + sum_by f xs) (sym same)
             ∙ sym (sum_by-cons f x xs)
         by_case others false own found =
             omega (arith, others found, sum_by-cons f x (without o k xs), sum_by-cons f x xs)
@@ -99,4 +109,9 @@ module _ {K R : Type 0} (o : Order K R) where
         → suc (length (without o k rows)) ≡ length rows
     length-without_there k r rows up there =
         let one : R → ℕ = λ y. 1 in
-        omega (arith, sum_by-without_there one k r rows up there, count_by_true (without o k rows), count_by_true rows)
+        omega (
+          arith,
+          sum_by-without_there one k r rows up there,
+          count_by_true (without o k rows),
+          count_by_true rows,
+        )

@@ -21,35 +21,46 @@ module _ {K R : Type 0} (o : Order K R) where
       → ((x : R) → o.compare (o.key r) (o.key x) ≡ Equal → q x ≡ false)
       → filter q (put o r rows) ≡ filter q rows
   filter-put_false q r [] out all_out = ap (λ b. cond b (r ∷ []) []) out
-  filter-put_false q r (x ∷ xs) out all_out = by_case (filter-put_false q r xs out all_out) (o.compare (o.key r) (o.key x)) refl
+  filter-put_false q r (x ∷ xs) out all_out =
+      by_case (filter-put_false q r xs out all_out) (o.compare (o.key r) (o.key x)) refl
     where
       by_case : filter q (put o r xs) ≡ filter q xs → (c : Ordering) → o.compare (o.key r) (o.key x) ≡ c
           → filter q (elim c [ Less ↦ r ∷ x ∷ xs | Equal ↦ r ∷ xs | Greater ↦ x ∷ put o r xs ]) ≡ filter q (x ∷ xs)
       by_case others Less is = ap (λ b. cond b (r ∷ filter q (x ∷ xs)) (filter q (x ∷ xs))) out
-      by_case others Equal is = ap (λ b. cond b (r ∷ filter q xs) (filter q xs)) out ∙ sym (ap (λ b. cond b (x ∷ filter q xs) (filter q xs)) (all_out x is))
+      by_case others Equal is =
+          ap (λ b. cond b (r ∷ filter q xs) (filter q xs)) out
+          ∙ sym (ap (λ b. cond b (x ∷ filter q xs) (filter q xs)) (all_out x is))
       by_case others Greater is = ap (λ ys. cond (q x) (x ∷ ys) ys) others
 
   module _ (total : IsTotalOrder o.compare) where
     pub row_at-filter : (q : R → Bool) (k : K) (rows : List R) → IsTrue (rises o rows)
         → row_at o k (filter q rows) ≡ if_passes q (row_at o k rows)
     row_at-filter q k [] up = refl
-    row_at-filter q k (x ∷ xs) up = by_case (row_at-filter q k xs (rises_tail o x xs up)) (q x) (has_key o k x) refl refl
+    row_at-filter q k (x ∷ xs) up =
+        by_case (row_at-filter q k xs (rises_tail o x xs up)) (q x) (has_key o k x) refl refl
       where
         by_case : row_at o k (filter q xs) ≡ if_passes q (row_at o k xs) → (b c : Bool) → q x ≡ b → has_key o k x ≡ c
             → row_at o k (cond b (x ∷ filter q xs) (filter q xs)) ≡ if_passes q (cond c (Some x) (row_at o k xs))
-        by_case others true true passes here = ap (λ b. cond b (Some x) (row_at o k (filter q xs))) here ∙ sym (ap (λ b. cond b (Some x) None) passes)
+        by_case others true true passes here =
+            ap (λ b. cond b (Some x) (row_at o k (filter q xs))) here ∙ sym (ap (λ b. cond b (Some x) None) passes)
         by_case others true false passes here = ap (λ b. cond b (Some x) (row_at o k (filter q xs))) here ∙ others
         by_case others false true fails here =
-            others ∙ ap (if_passes q) (row_at_behind o total k x xs up (equal_from_is_eq (o.compare k (o.key x)) here)) ∙ sym (ap (λ b. cond b (Some x) None) fails)
+            others ∙ ap (if_passes q)
+            (row_at_behind o total k x xs up (equal_from_is_eq (o.compare k (o.key x)) here))
+            ∙ sym (ap (λ b. cond b (Some x) None) fails)
         by_case others false false fails here = others
 
     -- a put of a row that passes
     pub filter-put_true : (q : R → Bool) (r : R) (rows : List R) → IsTrue (rises o rows) → IsTrue (q r)
         → filter q (put o r rows) ≡ put o r (filter q rows)
     filter-put_true q r rows up passes =
-        same_from_row_at o total (filter q (put o r rows)) (put o r (filter q rows)) (rises-filter o q (put o r rows) (rises-put o total r rows up)) (rises-put o total r (filter q rows) (rises-filter o q rows up))
-        (λ k. row_at-filter q k (put o r rows) (rises-put o total r rows up) ∙ ap (if_passes q) (row_at-put o total k r rows) ∙ own k (has_key o k r)
-        ∙ sym (row_at-put o total k r (filter q rows) ∙ ap (λ found. cond (has_key o k r) (Some r) found) (row_at-filter q k rows up)))
+        same_from_row_at o total (filter q (put o r rows)) (put o r (filter q rows))
+        (rises-filter o q (put o r rows) (rises-put o total r rows up))
+        (rises-put o total r (filter q rows) (rises-filter o q rows up))
+        (λ k. row_at-filter q k (put o r rows) (rises-put o total r rows up)
+        ∙ ap (if_passes q) (row_at-put o total k r rows) ∙ own k (has_key o k r)
+        ∙ sym (row_at-put o total k r (filter q rows)
+        ∙ ap (λ found. cond (has_key o k r) (Some r) found) (row_at-filter q k rows up)))
       where
         own : (k : K) (b : Bool)
             → if_passes q (cond b (Some r) (row_at o k rows)) ≡ cond b (Some r) (if_passes q (row_at o k rows))

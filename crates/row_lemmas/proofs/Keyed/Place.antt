@@ -42,7 +42,8 @@ module _ {K R : Type 0} (o : Order K R) where
         → without o k rows ≡ remove rows i
     without-Stands k [] i up at = absurd at
     without-Stands k (x ∷ xs) zero up at = rw at (without_past k xs (rises_behind o total k x xs up at))
-    without-Stands k (x ∷ xs) (suc i) up at = rw at.0 (ap (λ l. x ∷ l) (without-Stands k xs i (rises_tail o x xs up) at.1))
+    without-Stands k (x ∷ xs) (suc i) up at =
+        rw at.0 (ap (λ l. x ∷ l) (without-Stands k xs i (rises_tail o x xs up) at.1))
 
     -- no row has a key that goes between the rows
     pub row_at-GoesAt : (k : K) (rows : List R) (i : ℕ) → IsTrue (rises o rows) → GoesAt o k rows i
@@ -77,12 +78,15 @@ module _ {K R : Type 0} (o : Order K R) where
     -- an earlier row has a smaller key
     compare-get_or : (rows : List R) (i j : ℕ) (d : R) → IsTrue (rises o rows) → i < j → j < length rows
         → o.compare (o.key (get_or rows i d)) (o.key (get_or rows j d)) ≡ Less
-    compare-get_or rows i j d up below short = less_from_is_lt (o.compare (o.key (get_or rows i d)) (o.key (get_or rows j d))) (rises-get_or o rows i j d up below short)
+    compare-get_or rows i j d up below short =
+        less_from_is_lt (o.compare (o.key (get_or rows i d)) (o.key (get_or rows j d)))
+        (rises-get_or o rows i j d up below short)
 
     answers_rise : (k : K) (rows : List R) → IsTrue (rises o rows)
         → IsNonDecreasingBy (λ y. ordering_index (o.compare (o.key y) k)) rows
     answers_rise k rows up i j d le short = elim (cases_lt i j) [
-      | inl below ↦ index_le (o.key (get_or rows i d)) (o.key (get_or rows j d)) k (compare-get_or rows i j d up below short)
+      | inl below ↦ index_le (o.key (get_or rows i d)) (o.key (get_or rows j d)) k
+          (compare-get_or rows i j d up below short)
       | inr above ↦
           let same : i ≡ j = omega arith in
           rw same (omega arith)
@@ -94,19 +98,27 @@ module _ {K R : Type 0} (o : Order K R) where
     stands_from k (x ∷ xs) zero up short at = tied_back total _ _ (at x)
     stands_from k (x ∷ xs) (suc i) up short at =
         let there = get_or xs i x in
-        let before : o.compare (o.key x) (o.key there) ≡ Less = compare-get_or (x ∷ xs) 0 (suc i) x up (omega arith) short in
-        (turned _ _ _ (sym (alike_right total (o.key there) k (o.key x) (at x)) ∙ before), stands_from k xs i (rises_tail o x xs up) (omega arith) at)
+        let before : o.compare (o.key x) (o.key there) ≡ Less =
+        compare-get_or (x ∷ xs) 0 (suc i) x up (omega arith) short in (
+          turned _ _ _ (sym (alike_right total (o.key there) k (o.key x) (at x)) ∙ before),
+          stands_from k xs i (rises_tail o x xs up) (omega arith) at,
+        )
 
     goes_from : (k : K) (rows : List R) (i : ℕ) → i ≤ length rows
         → AllWithin (λ y. o.compare (o.key y) k ≡ Less) rows 0 i
         → AllWithin (λ y. o.compare (o.key y) k ≡ Greater) rows i (length rows) → GoesAt o k rows i
     goes_from k [] i le below above = omega arith
     goes_from k (x ∷ xs) zero le below above = turned _ _ _ (above 0 x (omega arith) (omega arith))
-    goes_from k (x ∷ xs) (suc i) le below above = (turned _ _ _ (below 0 x (omega arith) (omega arith)), goes_from k xs i (omega arith) (λ j d l m. below (suc j) d (omega arith) (omega arith)) (λ j d l m. above (suc j) d (omega arith) (omega arith)))
+    goes_from k (x ∷ xs) (suc i) le below above = (
+      turned _ _ _ (below 0 x (omega arith) (omega arith)),
+      goes_from k xs i (omega arith) (λ j d l m. below (suc j) d (omega arith) (omega arith))
+          (λ j d l m. above (suc j) d (omega arith) (omega arith)),
+    )
 
     -- an `Ok` has the place of the key, and an `Err` the place where it fits
     pub Stands_from_search : (k : K) (rows : List R) (r : Result ℕ ℕ) → IsTrue (rises o rows)
         → IsSearchInRange r (length rows) → IsBinarySearchResult (λ y. o.compare (o.key y) k) rows r
         → (IfOk r (Stands o k rows)) × IfErr r (GoesAt o k rows)
     Stands_from_search k rows (Ok i) up short found = (stands_from k rows i up short found, tt)
-    Stands_from_search k rows (Err i) up le found = let parts = found (answers_rise k rows up) in (tt, goes_from k rows i le parts.0 parts.1)
+    Stands_from_search k rows (Err i) up le found =
+        let parts = found (answers_rise k rows up) in (tt, goes_from k rows i le parts.0 parts.1)

@@ -76,7 +76,8 @@ module _ {K R : Type 0} (o : Order K R) where
 
       by_case : (is_some (row_at o (o.key r) xs) ≡ false → list_any q (put o r xs) ≡ (q r || list_any q xs))
           → (c : Ordering) → is_some (cond (is_eq c) (Some x) (row_at o (o.key r) xs)) ≡ false
-          → list_any q (elim c [ Less ↦ r ∷ x ∷ xs | Equal ↦ r ∷ xs | Greater ↦ x ∷ put o r xs ]) ≡ (q r || list_any q (x ∷ xs))
+          → list_any q (elim c [ Less ↦ r ∷ x ∷ xs | Equal ↦ r ∷ xs | Greater ↦ x ∷ put o r xs ])
+          ≡ (q r || list_any q (x ∷ xs))
       by_case others Less none = refl
       by_case others Equal none = absurd (cc none)
       by_case others Greater none = ap (λ b. q x || b) (others none) ∙ swapped (q x) (q r) (list_any q xs)
@@ -87,7 +88,8 @@ module _ {K R : Type 0} (o : Order K R) where
   pub find-put_new : (q : R → Bool) (r : R) (rows : List R) → is_some (row_at o (o.key r) rows) ≡ false → q r ≡ false
       → find q (put o r rows) ≡ find q rows
   find-put_new q r [] new fails = ap (λ b. cond b (Some r) None) fails
-  find-put_new q r (x ∷ xs) new fails = by_case (λ none. find-put_new q r xs none fails) (o.compare (o.key r) (o.key x)) new
+  find-put_new q r (x ∷ xs) new fails =
+      by_case (λ none. find-put_new q r xs none fails) (o.compare (o.key r) (o.key x)) new
     where
       by_case : (is_some (row_at o (o.key r) xs) ≡ false → find q (put o r xs) ≡ find q xs) → (c : Ordering)
           → is_some (cond (is_eq c) (Some x) (row_at o (o.key r) xs)) ≡ false
@@ -105,7 +107,8 @@ module _ {K R : Type 0} (o : Order K R) where
     where
       by_case : (is_some (row_at o (o.key r) xs) ≡ false → length (put o r xs) ≡ suc (length xs)) → (c : Ordering)
           → is_some (cond (is_eq c) (Some x) (row_at o (o.key r) xs)) ≡ false
-          → length {A = R} (elim c [ Less ↦ r ∷ x ∷ xs | Equal ↦ r ∷ xs | Greater ↦ x ∷ put o r xs ]) ≡ suc (length (x ∷ xs))
+          → length {A = R} (elim c [ Less ↦ r ∷ x ∷ xs | Equal ↦ r ∷ xs | Greater ↦ x ∷ put o r xs ])
+          ≡ suc (length (x ∷ xs))
       by_case others Less none = refl
       by_case others Equal none = absurd (cc none)
       by_case others Greater none = ap suc (others none)
@@ -117,7 +120,8 @@ module _ {K R : Type 0} (o : Order K R) where
       → IsTrue (list_all (λ x. not (alike x r)) rows) → IsTrue (differ alike rows)
       → IsTrue (differ alike (put o r rows))
   differ-put alike r [] before after unlike = refl
-  differ-put alike r (x ∷ xs) before after unlike = by_case (differ-put alike r xs ahead.1 back.1 parts.1) (o.compare (o.key r) (o.key x))
+  differ-put alike r (x ∷ xs) before after unlike =
+      by_case (differ-put alike r xs ahead.1 back.1 parts.1) (o.compare (o.key r) (o.key x))
     where
       ahead : IsTrue (not (alike r x)) × IsTrue (list_all (λ y. not (alike r y)) xs)
       ahead = and_parts (not (alike r x)) (list_all (λ y. not (alike r y)) xs) before
@@ -130,17 +134,23 @@ module _ {K R : Type 0} (o : Order K R) where
 
       by_case : IsTrue (differ alike (put o r xs)) → (c : Ordering)
           → IsTrue (differ alike (elim c [ Less ↦ r ∷ x ∷ xs | Equal ↦ r ∷ xs | Greater ↦ x ∷ put o r xs ]))
-      by_case rest Less = and_from (not (list_any (alike r) (x ∷ xs))) (differ alike (x ∷ xs)) (list_any_from_list_all (alike r) (x ∷ xs) before) unlike
-      by_case rest Equal = and_from (not (list_any (alike r) xs)) (differ alike xs) (list_any_from_list_all (alike r) xs ahead.1) parts.1
+      by_case rest Less =
+          and_from (not (list_any (alike r) (x ∷ xs))) (differ alike (x ∷ xs))
+          (list_any_from_list_all (alike r) (x ∷ xs) before) unlike
+      by_case rest Equal =
+          and_from (not (list_any (alike r) xs)) (differ alike xs)
+          (list_any_from_list_all (alike r) xs ahead.1) parts.1
       by_case rest Greater =
           and_from (not (list_any (alike x) (put o r xs))) (differ alike (put o r xs))
-          (list_any_from_list_all (alike x) (put o r xs) (list_all-put (λ y. not (alike x y)) r xs back.0 (list_all_from_list_any (alike x) xs parts.0))) rest
+          (list_any_from_list_all (alike x) (put o r xs)
+          (list_all-put (λ y. not (alike x y)) r xs back.0 (list_all_from_list_any (alike x) xs parts.0))) rest
 
   -- ---- entries by key
 
   -- a put of a row inserts what is told of it at its key
   pub map-put_entry : {X : Type 0} → IsAntisymmetric o.compare → (f : R → X) (r : R) (rows : List R)
-      → map (λ x. (o.key x, f x)) (put o r rows) ≡ insert_entry o.compare (map (λ x. (o.key x, f x)) rows) (o.key r) (f r)
+      → map (λ x. (o.key x, f x)) (put o r rows)
+      ≡ insert_entry o.compare (map (λ x. (o.key x, f x)) rows) (o.key r) (f r)
   map-put_entry exact f r [] = refl
   map-put_entry {X} exact f r (x ∷ xs) = by_case (map-put_entry exact f r xs) (o.compare (o.key r) (o.key x)) refl
     where
@@ -150,7 +160,8 @@ module _ {K R : Type 0} (o : Order K R) where
       by_case : map told (put o r xs) ≡ insert_entry o.compare (map told xs) (o.key r) (f r) → (c : Ordering)
           → o.compare (o.key r) (o.key x) ≡ c
           → map told (elim c [ Less ↦ r ∷ x ∷ xs | Equal ↦ r ∷ xs | Greater ↦ x ∷ put o r xs ])
-          ≡ match_ordering c ((o.key r, f r) ∷ told x ∷ map told xs) ((o.key x, f r) ∷ map told xs) (told x ∷ insert_entry o.compare (map told xs) (o.key r) (f r))
+          ≡ match_ordering c ((o.key r, f r) ∷ told x ∷ map told xs) ((o.key x, f r) ∷ map told xs)
+          (told x ∷ insert_entry o.compare (map told xs) (o.key r) (f r))
       by_case others Less is = refl
       by_case others Equal is = ap (λ k. (k, f r) ∷ map told xs) (exact (o.key r) (o.key x) is)
       by_case others Greater is = ap (λ es. told x ∷ es) others
@@ -164,11 +175,16 @@ module _ {K R : Type 0} (o : Order K R) where
       where
         by_case : IsTrue (rises o (put o r xs)) → (c : Ordering) → o.compare (o.key r) (o.key x) ≡ c
             → IsTrue (rises o (elim c [ Less ↦ r ∷ x ∷ xs | Equal ↦ r ∷ xs | Greater ↦ x ∷ put o r xs ]))
-        by_case rest Less is = and_from (list_all (is_past o (o.key r)) (x ∷ xs)) (rises o (x ∷ xs)) (rises_below o total (o.key r) x xs up is) up
-        by_case rest Equal is = and_from (list_all (is_past o (o.key r)) xs) (rises o xs) (rises_behind o total (o.key r) x xs up is) (rises_tail o x xs up)
+        by_case rest Less is =
+            and_from (list_all (is_past o (o.key r)) (x ∷ xs)) (rises o (x ∷ xs))
+            (rises_below o total (o.key r) x xs up is) up
+        by_case rest Equal is =
+            and_from (list_all (is_past o (o.key r)) xs) (rises o xs) (rises_behind o total (o.key r) x xs up is)
+            (rises_tail o x xs up)
         by_case rest Greater is =
             and_from (list_all (is_past o (o.key x)) (put o r xs)) (rises o (put o r xs))
-            (list_all-put (is_past o (o.key x)) r xs (ap is_lt (compare_greater_back o total (o.key r) (o.key x) is)) (rises_head o x xs up)) rest
+            (list_all-put (is_past o (o.key x)) r xs (ap is_lt (compare_greater_back o total (o.key r) (o.key x) is))
+            (rises_head o x xs up)) rest
 
     -- ---- row_at
 
@@ -199,13 +215,17 @@ module _ {K R : Type 0} (o : Order K R) where
 
         by_case : row_at o k (put o r xs) ≡ cond (has_key o k r) (Some r) (row_at o k xs) → (c : Ordering)
             → o.compare (o.key r) (o.key x) ≡ c
-            → row_at o k (elim c [ Less ↦ r ∷ x ∷ xs | Equal ↦ r ∷ xs | Greater ↦ x ∷ put o r xs ]) ≡ cond (has_key o k r) (Some r) (cond (has_key o k x) (Some x) (row_at o k xs))
+            → row_at o k (elim c [ Less ↦ r ∷ x ∷ xs | Equal ↦ r ∷ xs | Greater ↦ x ∷ put o r xs ])
+            ≡ cond (has_key o k r) (Some r) (cond (has_key o k x) (Some x) (row_at o k xs))
         by_case others Less is = refl
         by_case others Equal is = equal (has_key o k r) (has_key o k x) (same is)
-        by_case others Greater is = ap (λ found. cond (has_key o k x) (Some x) found) others ∙ apart is (has_key o k r) (has_key o k x) refl refl
+        by_case others Greater is =
+            ap (λ found. cond (has_key o k x) (Some x) found) others
+            ∙ apart is (has_key o k r) (has_key o k x) refl refl
 
     pub row_at-put_same : (r : R) (rows : List R) → row_at o (o.key r) (put o r rows) ≡ Some r
-    row_at-put_same r rows = row_at-put (o.key r) r rows ∙ ap (λ b. cond b (Some r) (row_at o (o.key r) rows)) (has_key_same o total r)
+    row_at-put_same r rows =
+        row_at-put (o.key r) r rows ∙ ap (λ b. cond b (Some r) (row_at o (o.key r) rows)) (has_key_same o total r)
 
     pub row_at-put_other : (k : K) (r : R) (rows : List R) → has_key o k r ≡ false
         → row_at o k (put o r rows) ≡ row_at o k rows
@@ -221,10 +241,13 @@ module _ {K R : Type 0} (o : Order K R) where
       where
         by_case : put o a (put o b xs) ≡ put o a xs → (c : Ordering) → o.compare (o.key b) (o.key x) ≡ c
             → put o a (elim c [ Less ↦ b ∷ x ∷ xs | Equal ↦ b ∷ xs | Greater ↦ x ∷ put o b xs ]) ≡ put o a (x ∷ xs)
-        by_case others Less is = put_equal a b (x ∷ xs) same ∙ sym (put_less a x xs (total.congr (o.key a) (o.key b) (o.key x) same ∙ is))
-        by_case others Equal is = put_equal a b xs same ∙ sym (put_equal a x xs (total.congr (o.key a) (o.key b) (o.key x) same ∙ is))
+        by_case others Less is =
+            put_equal a b (x ∷ xs) same ∙ sym (put_less a x xs (total.congr (o.key a) (o.key b) (o.key x) same ∙ is))
+        by_case others Equal is =
+            put_equal a b xs same ∙ sym (put_equal a x xs (total.congr (o.key a) (o.key b) (o.key x) same ∙ is))
         by_case others Greater is =
-            let past : o.compare (o.key a) (o.key x) ≡ Greater = total.congr (o.key a) (o.key b) (o.key x) same ∙ is in
+            let past : o.compare (o.key a) (o.key x) ≡ Greater =
+            total.congr (o.key a) (o.key b) (o.key x) same ∙ is in
             put_greater a x (put o b xs) past ∙ ap (λ ys. x ∷ ys) others ∙ sym (put_greater a x xs past)
 
     pub put-put : (r : R) (rows : List R) → put o r (put o r rows) ≡ put o r rows
@@ -234,15 +257,18 @@ module _ {K R : Type 0} (o : Order K R) where
     pub put_comm : (a b : R) (rows : List R) → IsTrue (rises o rows) → (o.compare (o.key a) (o.key b) ≡ Equal → ⊥)
         → put o a (put o b rows) ≡ put o b (put o a rows)
     put_comm a b rows up apart =
-        same_from_row_at o total (put o a (put o b rows)) (put o b (put o a rows)) (rises-put a (put o b rows) (rises-put b rows up)) (rises-put b (put o a rows) (rises-put a rows up))
+        same_from_row_at o total (put o a (put o b rows)) (put o b (put o a rows))
+        (rises-put a (put o b rows) (rises-put b rows up)) (rises-put b (put o a rows) (rises-put a rows up))
         (λ k. row_at-put k a (put o b rows) ∙ ap (λ found. cond (has_key o k a) (Some a) found) (row_at-put k b rows)
         ∙ either k (has_key o k a) (has_key o k b) refl refl
-        ∙ sym (row_at-put k b (put o a rows) ∙ ap (λ found. cond (has_key o k b) (Some b) found) (row_at-put k a rows)))
+        ∙ sym (row_at-put k b (put o a rows)
+        ∙ ap (λ found. cond (has_key o k b) (Some b) found) (row_at-put k a rows)))
       where
         either : (k : K) (c d : Bool) → has_key o k a ≡ c → has_key o k b ≡ d
             → cond c (Some a) (cond d (Some b) (row_at o k rows)) ≡ cond d (Some b) (cond c (Some a) (row_at o k rows))
         either k true true ka kb =
-            absurd (apart (sym (total.congr k (o.key a) (o.key b) (equal_from_is_eq (o.compare k (o.key a)) ka)) ∙ equal_from_is_eq (o.compare k (o.key b)) kb))
+            absurd (apart (sym (total.congr k (o.key a) (o.key b) (equal_from_is_eq (o.compare k (o.key a)) ka))
+            ∙ equal_from_is_eq (o.compare k (o.key b)) kb))
         either k true false ka kb = refl
         either k false true ka kb = refl
         either k false false ka kb = refl
@@ -251,10 +277,12 @@ module _ {K R : Type 0} (o : Order K R) where
     pub put_same : (r : R) (rows : List R) → IsTrue (rises o rows) → row_at o (o.key r) rows ≡ Some r
         → put o r rows ≡ rows
     put_same r rows up there =
-        same_from_row_at o total (put o r rows) rows (rises-put r rows up) up (λ k. row_at-put k r rows ∙ own k (has_key o k r) refl)
+        same_from_row_at o total (put o r rows) rows (rises-put r rows up) up
+        (λ k. row_at-put k r rows ∙ own k (has_key o k r) refl)
       where
         own : (k : K) (b : Bool) → has_key o k r ≡ b → cond b (Some r) (row_at o k rows) ≡ row_at o k rows
-        own k true is = sym (row_at_tied o total k (o.key r) rows (equal_from_is_eq (o.compare k (o.key r)) is) ∙ there)
+        own k true is =
+            sym (row_at_tied o total k (o.key r) rows (equal_from_is_eq (o.compare k (o.key r)) is) ∙ there)
         own k false is = refl
 
     -- ---- map
@@ -263,13 +291,18 @@ module _ {K R : Type 0} (o : Order K R) where
     pub map-put_there : {X : Type 0} (f : R → X) (new old : R) (rows : List R) → IsTrue (rises o rows)
         → row_at o (o.key new) rows ≡ Some old → f new ≡ f old → map f (put o new rows) ≡ map f rows
     map-put_there f new old [] up found same = absurd (cc found)
-    map-put_there {X = X} f new old (x ∷ xs) up found same = by_case (λ there. map-put_there f new old xs (rises_tail o x xs up) there same) (o.compare (o.key new) (o.key x)) refl found
+    map-put_there {X = X} f new old (x ∷ xs) up found same =
+        by_case (λ there. map-put_there f new old xs (rises_tail o x xs up) there same)
+        (o.compare (o.key new) (o.key x)) refl found
       where
         by_case : (row_at o (o.key new) xs ≡ Some old → map f (put o new xs) ≡ map f xs) → (c : Ordering)
             → o.compare (o.key new) (o.key x) ≡ c → cond (is_eq c) (Some x) (row_at o (o.key new) xs) ≡ Some old
             → map f (elim c [ Less ↦ new ∷ x ∷ xs | Equal ↦ new ∷ xs | Greater ↦ x ∷ put o new xs ]) ≡ map f (x ∷ xs)
         by_case rest Less is there =
-            let none : row_at o (o.key new) xs ≡ None = row_at_none o (o.key new) xs (and_parts (is_past o (o.key new) x) (list_all (is_past o (o.key new)) xs) (rises_below o total (o.key new) x xs up is)).1 in
+            let none : row_at o (o.key new) xs ≡ None =
+            row_at_none o (o.key new) xs
+            (and_parts (is_past o (o.key new) x) (list_all (is_past o (o.key new)) xs)
+            (rises_below o total (o.key new) x xs up is)).1 in
             let clash : None ≡ Some old = sym none ∙ there in
             absurd (cc clash)
         by_case rest Equal is there =
@@ -281,7 +314,8 @@ module _ {K R : Type 0} (o : Order K R) where
         → row_at o (o.key new) rows ≡ Some old → length (put o new rows) ≡ length rows
     length-put_there new old rows up found =
         let blank : R → Bool = λ y. true in
-        sym (length-map (put o new rows) blank) ∙ ap length (map-put_there blank new old rows up found refl) ∙ length-map rows blank
+        sym (length-map (put o new rows) blank) ∙ ap length (map-put_there blank new old rows up found refl)
+        ∙ length-map rows blank
 
     -- ---- list_all, once more
 
@@ -290,24 +324,32 @@ module _ {K R : Type 0} (o : Order K R) where
         → IsTrue (list_all (λ x. has_key o (o.key r) x || p x) rows) → IsTrue (list_all p (put o r rows))
     list_all-put_else p r [] up passes all = and_from (p r) true passes refl
     list_all-put_else p r (x ∷ xs) up passes all =
-        by_case (list_all-put_else p r xs (rises_tail o x xs up) passes (and_parts (has_key o (o.key r) x || p x) (list_all either xs) all).1) (o.compare (o.key r) (o.key x)) refl all
+        by_case (list_all-put_else p r xs (rises_tail o x xs up) passes
+        (and_parts (has_key o (o.key r) x || p x) (list_all either xs) all).1)
+        (o.compare (o.key r) (o.key x)) refl all
       where
         either : R → Bool
         either y = has_key o (o.key r) y || p y
 
         past : (y : R) → IsTrue (is_past o (o.key r) y) → IsTrue (either y) → IsTrue (p y)
         past y later is =
-            let below : o.compare (o.key r) (o.key y) ≡ Less = less_from_is_lt (o.compare (o.key r) (o.key y)) later in
+            let below : o.compare (o.key r) (o.key y) ≡ Less =
+            less_from_is_lt (o.compare (o.key r) (o.key y)) later in
             ap (λ c. is_eq c || p y) (sym below) ∙ is
 
         by_case : IsTrue (list_all p (put o r xs)) → (c : Ordering) → o.compare (o.key r) (o.key x) ≡ c
             → IsTrue ((is_eq c || p x) && list_all either xs)
             → IsTrue (list_all p (elim c [ Less ↦ r ∷ x ∷ xs | Equal ↦ r ∷ xs | Greater ↦ x ∷ put o r xs ]))
         by_case rest Less is every =
-            and_from (p r) (list_all p (x ∷ xs)) passes (list_all_weaker_both (is_past o (o.key r)) either p past (x ∷ xs) (rises_below o total (o.key r) x xs up is) all)
+            and_from (p r) (list_all p (x ∷ xs)) passes
+            (list_all_weaker_both (is_past o (o.key r)) either p past (x ∷ xs)
+            (rises_below o total (o.key r) x xs up is) all)
         by_case rest Equal is every =
-            and_from (p r) (list_all p xs) passes (list_all_weaker_both (is_past o (o.key r)) either p past xs (rises_behind o total (o.key r) x xs up is) every)
-        by_case rest Greater is every = and_from (p x) (list_all p (put o r xs)) (and_parts (p x) (list_all either xs) every).0 rest
+            and_from (p r) (list_all p xs) passes
+            (list_all_weaker_both (is_past o (o.key r)) either p past xs
+            (rises_behind o total (o.key r) x xs up is) every)
+        by_case rest Greater is every =
+            and_from (p x) (list_all p (put o r xs)) (and_parts (p x) (list_all either xs) every).0 rest
 
 -- an insertion goes through what is made of the values
 pub map-insert_entry : {K X Y : Type 0} (cmp : K → K → Ordering) (f : X → Y) (es : List (K × X)) (k : K) (v : X)
@@ -320,7 +362,8 @@ map-insert_entry {K} {X} {Y} cmp f (e ∷ es) k v = by_case (map-insert_entry cm
 
     by_case : map made (insert_entry cmp es k v) ≡ insert_entry cmp (map made es) k (f v) → (c : Ordering)
         → map made (match_ordering c ((k, v) ∷ e ∷ es) ((e.0, v) ∷ es) (e ∷ insert_entry cmp es k v))
-        ≡ match_ordering c ((k, f v) ∷ made e ∷ map made es) ((e.0, f v) ∷ map made es) (made e ∷ insert_entry cmp (map made es) k (f v))
+        ≡ match_ordering c ((k, f v) ∷ made e ∷ map made es) ((e.0, f v) ∷ map made es)
+        (made e ∷ insert_entry cmp (map made es) k (f v))
     by_case others Less = refl
     by_case others Equal = refl
     by_case others Greater = ap (λ xs. made e ∷ xs) others

@@ -22,7 +22,8 @@ module _ {K R : Type 0} (o : Order K R) where
   rises-take zero rows up = refl
   rises-take (suc n) [] up = refl
   rises-take (suc n) (x ∷ xs) up =
-      and_from (list_all (is_past o (o.key x)) (take n xs)) (rises o (take n xs)) (list_all-take (is_past o (o.key x)) n xs (rises_head x xs up)) (rises-take n xs (rises_tail x xs up))
+      and_from (list_all (is_past o (o.key x)) (take n xs)) (rises o (take n xs))
+      (list_all-take (is_past o (o.key x)) n xs (rises_head x xs up)) (rises-take n xs (rises_tail x xs up))
 
   pub rises-drop : (n : ℕ) (rows : List R) → IsTrue (rises o rows) → IsTrue (rises o (drop n rows))
   rises-drop zero rows up = up
@@ -35,7 +36,9 @@ module _ {K R : Type 0} (o : Order K R) where
     where
       by_case : IsTrue (rises o (filter q xs)) → (b : Bool)
           → IsTrue (rises o (cond b (x ∷ filter q xs) (filter q xs)))
-      by_case others true = and_from (list_all (is_past o (o.key x)) (filter q xs)) (rises o (filter q xs)) (list_all-filter q (is_past o (o.key x)) xs (rises_head x xs up)) others
+      by_case others true =
+          and_from (list_all (is_past o (o.key x)) (filter q xs)) (rises o (filter q xs))
+          (list_all-filter q (is_past o (o.key x)) xs (rises_head x xs up)) others
       by_case others false = others
 
   pub rises-without : (k : K) (rows : List R) → IsTrue (rises o rows) → IsTrue (rises o (without o k rows))
@@ -51,18 +54,24 @@ module _ {K R : Type 0} (o : Order K R) where
       list_all-get_or : (ys : List R) (i : ℕ) → IsTrue (list_all (is_past o (o.key x)) ys) → i < length ys
           → IsTrue (is_past o (o.key x) (get_or ys i d))
       list_all-get_or [] i all short = absurd (omega arith)
-      list_all-get_or (y ∷ ys) zero all short = (and_parts (is_past o (o.key x) y) (list_all (is_past o (o.key x)) ys) all).0
-      list_all-get_or (y ∷ ys) (suc i) all short = list_all-get_or ys i (and_parts (is_past o (o.key x) y) (list_all (is_past o (o.key x)) ys) all).1 (omega arith)
-  rises-get_or (x ∷ xs) (suc i) (suc j) d up below short = rises-get_or xs i j d (rises_tail x xs up) (omega arith) (omega arith)
+      list_all-get_or (y ∷ ys) zero all short =
+          (and_parts (is_past o (o.key x) y) (list_all (is_past o (o.key x)) ys) all).0
+      list_all-get_or (y ∷ ys) (suc i) all short =
+          list_all-get_or ys i (and_parts (is_past o (o.key x) y) (list_all (is_past o (o.key x)) ys) all).1
+          (omega arith)
+  rises-get_or (x ∷ xs) (suc i) (suc j) d up below short =
+      rises-get_or xs i j d (rises_tail x xs up) (omega arith) (omega arith)
 
   module _ (total : IsTotalOrder o.compare) where
     -- a row past a second key is past a first that is below it
     pub is_past_trans : (a b : K) (r : R) → o.compare a b ≡ Less → IsTrue (is_past o b r) → IsTrue (is_past o a r)
-    is_past_trans a b r below is = ap is_lt (total.trans a b (o.key r) below (less_from_is_lt (o.compare b (o.key r)) is))
+    is_past_trans a b r below is =
+        ap is_lt (total.trans a b (o.key r) below (less_from_is_lt (o.compare b (o.key r)) is))
 
     -- and past one that ties with it
     pub is_past_same : (a b : K) (r : R) → o.compare a b ≡ Equal → IsTrue (is_past o b r) → IsTrue (is_past o a r)
-    is_past_same a b r same is = ap is_lt (total.congr a b (o.key r) same ∙ less_from_is_lt (o.compare b (o.key r)) is)
+    is_past_same a b r same is =
+        ap is_lt (total.congr a b (o.key r) same ∙ less_from_is_lt (o.compare b (o.key r)) is)
 
     -- keys compared the other way round
     pub compare_less_back : (a b : K) → o.compare a b ≡ Less → o.compare b a ≡ Greater
@@ -74,16 +83,20 @@ module _ {K R : Type 0} (o : Order K R) where
     -- rows that are past the first of two keys and its row, or past a tied key
     pub list_all-is_past_trans : (a b : K) (rows : List R) → o.compare a b ≡ Less
         → IsTrue (list_all (is_past o b) rows) → IsTrue (list_all (is_past o a) rows)
-    list_all-is_past_trans a b rows below all = list_all_weaker (is_past o b) (is_past o a) (λ y. is_past_trans a b y below) rows all
+    list_all-is_past_trans a b rows below all =
+        list_all_weaker (is_past o b) (is_past o a) (λ y. is_past_trans a b y below) rows all
 
     pub list_all-is_past_same : (a b : K) (rows : List R) → o.compare a b ≡ Equal
         → IsTrue (list_all (is_past o b) rows) → IsTrue (list_all (is_past o a) rows)
-    list_all-is_past_same a b rows same all = list_all_weaker (is_past o b) (is_past o a) (λ y. is_past_same a b y same) rows all
+    list_all-is_past_same a b rows same all =
+        list_all_weaker (is_past o b) (is_past o a) (λ y. is_past_same a b y same) rows all
 
     -- a key below the first row is below all
     pub rises_below : (k : K) (x : R) (xs : List R) → IsTrue (rises o (x ∷ xs)) → o.compare k (o.key x) ≡ Less
         → IsTrue (list_all (is_past o k) (x ∷ xs))
-    rises_below k x xs up below = and_from (is_past o k x) (list_all (is_past o k) xs) (ap is_lt below) (list_all-is_past_trans k (o.key x) xs below (rises_head x xs up))
+    rises_below k x xs up below =
+        and_from (is_past o k x) (list_all (is_past o k) xs) (ap is_lt below)
+        (list_all-is_past_trans k (o.key x) xs below (rises_head x xs up))
 
     -- and a key that ties with the first row's is below the others
     pub rises_behind : (k : K) (x : R) (xs : List R) → IsTrue (rises o (x ∷ xs)) → o.compare k (o.key x) ≡ Equal
@@ -97,5 +110,7 @@ pub rises-map : {K L R S : Type 0} (o : Order K R) (u : Order L S) (f : R → S)
 rises-map o u f same [] up = refl
 rises-map o u f same (x ∷ xs) up =
     and_from (list_all (is_past u (u.key (f x))) (map f xs)) (rises u (map f xs))
-    (list_all-map (is_past u (u.key (f x))) f xs ∙ list_all_weaker (is_past o (o.key x)) (λ y. is_past u (u.key (f x)) (f y)) (λ y is. same x y ∙ is) xs (rises_head o x xs up))
+    (list_all-map (is_past u (u.key (f x))) f xs
+    ∙ list_all_weaker (is_past o (o.key x)) (λ y. is_past u (u.key (f x)) (f y)) (λ y is. same x y ∙ is) xs
+    (rises_head o x xs up))
     (rises-map o u f same xs (rises_tail o x xs up))

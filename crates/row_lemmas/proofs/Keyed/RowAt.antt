@@ -35,7 +35,9 @@ module _ {K R : Type 0} (o : Order K R) where
 
   -- no row has a key that all rows are past
   pub row_at_none : (k : K) (rows : List R) → IsTrue (list_all (is_past o k) rows) → row_at o k rows ≡ None
-  row_at_none k rows all = find_none (has_key o k) (is_past o k) (λ r past. ap is_eq (less_from_is_lt (o.compare k (o.key r)) past)) rows all
+  row_at_none k rows all =
+      find_none (has_key o k) (is_past o k)
+      (λ r past. ap is_eq (less_from_is_lt (o.compare k (o.key r)) past)) rows all
 
   pub row_at_none_found : {X : Type 0} (k : K) (rows : List R) (r : R) → IsTrue (list_all (is_past o k) rows)
       → row_at o k rows ≡ Some r → X
@@ -57,7 +59,8 @@ module _ {K R : Type 0} (o : Order K R) where
     -- tied keys have one row
     pub row_at_tied : (j k : K) (rows : List R) → o.compare j k ≡ Equal → row_at o j rows ≡ row_at o k rows
     row_at_tied j k [] same = refl
-    row_at_tied j k (x ∷ xs) same = λ i. cond (is_eq (total.congr j k (o.key x) same i)) (Some x) (row_at_tied j k xs same i)
+    row_at_tied j k (x ∷ xs) same =
+        λ i. cond (is_eq (total.congr j k (o.key x) same i)) (Some x) (row_at_tied j k xs same i)
 
     pub row_at_below : (k : K) (x : R) (xs : List R) → IsTrue (rises o (x ∷ xs)) → o.compare k (o.key x) ≡ Less
         → row_at o k (x ∷ xs) ≡ None
@@ -70,13 +73,16 @@ module _ {K R : Type 0} (o : Order K R) where
 
     -- a later row has another key than the first
     has_key_later : (x r : R) → IsTrue (is_past o (o.key x) r) → has_key o (o.key r) x ≡ false
-    has_key_later x r past = ap is_eq (compare_less_back o total (o.key x) (o.key r) (less_from_is_lt (o.compare (o.key x) (o.key r)) past))
+    has_key_later x r past =
+        ap is_eq (compare_less_back o total (o.key x) (o.key r)
+        (less_from_is_lt (o.compare (o.key x) (o.key r)) past))
 
     -- what is found among later rows is found among all
     pub row_at_later : (k : K) (x : R) (xs : List R) (r : R) → IsTrue (rises o (x ∷ xs)) → row_at o k xs ≡ Some r
         → row_at o k (x ∷ xs) ≡ Some r
     row_at_later k x xs r up found =
-        let other : has_key o (o.key r) x ≡ false = has_key_later x r (row_at_passes (is_past o (o.key x)) k xs r (rises_head o x xs up) found) in
+        let other : has_key o (o.key r) x ≡ false =
+        has_key_later x r (row_at_passes (is_past o (o.key x)) k xs r (rises_head o x xs up) found) in
         row_at_next k x xs (ap is_eq (total.congr k (o.key r) (o.key x) (row_at_key k xs r found)) ∙ other) ∙ found
 
     -- what any test finds is found by its own key
@@ -108,7 +114,8 @@ module _ {K R : Type 0} (o : Order K R) where
         → ((k : K) (r : R) → row_at o k rows ≡ Some r → IsTrue (p r)) → IsTrue (list_all p rows)
     list_all_from_row_at p [] up each = refl
     list_all_from_row_at p (x ∷ xs) up each =
-        and_from (p x) (list_all p xs) (each (o.key x) x (row_at_head x xs)) (list_all_from_row_at p xs (rises_tail o x xs up) (λ k r found. each k r (row_at_later k x xs r up found)))
+        and_from (p x) (list_all p xs) (each (o.key x) x (row_at_head x xs))
+        (list_all_from_row_at p xs (rises_tail o x xs up) (λ k r found. each k r (row_at_later k x xs r up found)))
 
     -- ---- the same rows
 
@@ -137,15 +144,21 @@ module _ {K R : Type 0} (o : Order K R) where
     same_from_row_at [] [] up up_too same = refl
     same_from_row_at [] (y ∷ ys) up up_too same = clash y ys [] (sym (same (o.key y))) refl
     same_from_row_at (x ∷ xs) [] up up_too same = clash x xs [] (same (o.key x)) refl
-    same_from_row_at (x ∷ xs) (y ∷ ys) up up_too same = by_case (λ later. same_from_row_at xs ys (rises_tail o x xs up) (rises_tail o y ys up_too) later) (o.compare (o.key x) (o.key y)) refl
+    same_from_row_at (x ∷ xs) (y ∷ ys) up up_too same =
+        by_case (λ later. same_from_row_at xs ys (rises_tail o x xs up) (rises_tail o y ys up_too) later)
+        (o.compare (o.key x) (o.key y)) refl
       where
         by_case : (((k : K) → row_at o k xs ≡ row_at o k ys) → xs ≡ ys) → (c : Ordering)
             → o.compare (o.key x) (o.key y) ≡ c → x ∷ xs ≡ y ∷ ys
         by_case rest Less is = clash x xs (y ∷ ys) (same (o.key x)) (row_at_below (o.key x) y ys up_too is)
-        by_case rest Greater is = clash y ys (x ∷ xs) (sym (same (o.key y))) (row_at_below (o.key y) x xs up (compare_greater_back o total (o.key x) (o.key y) is))
+        by_case rest Greater is =
+            clash y ys (x ∷ xs) (sym (same (o.key y)))
+            (row_at_below (o.key y) x xs up (compare_greater_back o total (o.key x) (o.key y) is))
         by_case rest Equal is =
-            let first : Some x ≡ Some y = sym (row_at_head x xs) ∙ same (o.key x) ∙ ap (λ c. cond (is_eq c) (Some y) (row_at o (o.key x) ys)) is in
+            let first : Some x ≡ Some y =
+            sym (row_at_head x xs) ∙ same (o.key x) ∙ ap (λ c. cond (is_eq c) (Some y) (row_at o (o.key x) ys)) is in
             let one : y ≡ x = cc first in
             let later : (k : K) → row_at o k xs ≡ row_at o k ys =
-            same_behind x xs ys up (subst (λ z. IsTrue (rises o (z ∷ ys))) one up_too) (λ k. same k ∙ ap (λ z. row_at o k (z ∷ ys)) one) in
+            same_behind x xs ys up (subst (λ z. IsTrue (rises o (z ∷ ys))) one up_too)
+            (λ k. same k ∙ ap (λ z. row_at o k (z ∷ ys)) one) in
             λ i. sym one i ∷ rest later i

@@ -23,11 +23,14 @@ module _ {K R : Type 0} (o : Order K R) (total : IsTotalOrder o.compare) where
   -- sorting keeps the first row of each key
   pub row_at-sorted_by : (k : K) (rows : List R) → row_at o k (sorted_by o rows) ≡ row_at o k rows
   row_at-sorted_by k [] = refl
-  row_at-sorted_by k (r ∷ rs) = row_at-put o total k r (sorted_by o rs) ∙ ap (λ found. cond (has_key o k r) (Some r) found) (row_at-sorted_by k rs)
+  row_at-sorted_by k (r ∷ rs) =
+      row_at-put o total k r (sorted_by o rs)
+      ∙ ap (λ found. cond (has_key o k r) (Some r) found) (row_at-sorted_by k rs)
 
   -- rows that rise are as sorted
   pub sorted_by_same : (rows : List R) → IsTrue (rises o rows) → sorted_by o rows ≡ rows
-  sorted_by_same rows up = same_from_row_at o total (sorted_by o rows) rows (rises-sorted_by rows) up (λ k. row_at-sorted_by k rows)
+  sorted_by_same rows up =
+      same_from_row_at o total (sorted_by o rows) rows (rises-sorted_by rows) up (λ k. row_at-sorted_by k rows)
 
   -- what holds of no rows, and after a put of a new key, holds of all rows that rise
   pub rows_by_put : (P : List R → Type 0) → P []
@@ -38,7 +41,9 @@ module _ {K R : Type 0} (o : Order K R) (total : IsTotalOrder o.compare) where
       sorted : (rows : List R) → IsTrue (rises o rows) → P (sorted_by o rows)
       sorted [] up = none
       sorted (r ∷ rs) up =
-          step r (sorted_by o rs) (rises-sorted_by rs) (row_at-sorted_by (o.key r) rs ∙ row_at_none o (o.key r) rs (rises_head o r rs up)) (sorted rs (rises_tail o r rs up))
+          step r (sorted_by o rs) (rises-sorted_by rs)
+          (row_at-sorted_by (o.key r) rs ∙ row_at_none o (o.key r) rs (rises_head o r rs up))
+          (sorted rs (rises_tail o r rs up))
 
   pub count_by-sorted_by : (f : R → Bool) (rows : List R) → IsTrue (differ (λ a. has_key o (o.key a)) rows)
       → count_by f (sorted_by o rows) ≡ count_by f rows
@@ -47,22 +52,28 @@ module _ {K R : Type 0} (o : Order K R) (total : IsTotalOrder o.compare) where
       let parts : IsTrue (not (list_any (has_key o (o.key r)) rs)) × IsTrue (differ (λ a. has_key o (o.key a)) rs) =
       and_parts (not (list_any (has_key o (o.key r)) rs)) (differ (λ a. has_key o (o.key a)) rs) unlike in
       let new : is_some (row_at o (o.key r) (sorted_by o rs)) ≡ false =
-      ap is_some (row_at-sorted_by (o.key r) rs) ∙ sym (list_any-find (has_key o (o.key r)) rs) ∙ false_from_not (list_any (has_key o (o.key r)) rs) parts.0 in
+      ap is_some (row_at-sorted_by (o.key r) rs) ∙ sym (list_any-find (has_key o (o.key r)) rs)
+      ∙ false_from_not (list_any (has_key o (o.key r)) rs) parts.0 in
       let one : R → ℕ = λ y. cond (f y) 1 0 in
-      count_by-put_new o f r (sorted_by o rs) new ∙ sum_by-cons one r (sorted_by o rs) ∙ ap (λ n. one r + n) (count_by-sorted_by f rs parts.1) ∙ sym (sum_by-cons one r rs)
+      count_by-put_new o f r (sorted_by o rs) new ∙ sum_by-cons one r (sorted_by o rs)
+      ∙ ap (λ n. one r + n) (count_by-sorted_by f rs parts.1) ∙ sym (sum_by-cons one r rs)
 
 -- ---- a put, and what is made of the rows that are left, sorted by another key
 
 module _ {K L R S : Type 0} (o : Order K R) (e : Order L S) (total : IsTotalOrder e.compare) (f : R → Option S) (q p : R → Bool) (r : R) (s : S) where
   -- a row of another key, from which comes no row of this second key
   abbrev pub IsApart : R → Type 0
-  IsApart x = (o.compare (o.key r) (o.key x) ≡ Equal → ⊥) × (q x ≡ true → (y : S) → f x ≡ Some y → e.compare (e.key y) (e.key s) ≡ Equal → ⊥)
+  IsApart x =
+      (o.compare (o.key r) (o.key x) ≡ Equal → ⊥) ×
+      (q x ≡ true → (y : S) → f x ≡ Some y → e.compare (e.key y) (e.key s) ≡ Equal → ⊥)
 
   pub sorted_by-put : q r ≡ true → f r ≡ Some s → ((x : R) → IsTrue (p x) → IsApart x) → (rows : List R)
       → IsTrue (list_all p rows)
       → sorted_by e (filter_map f (filter q (put o r rows))) ≡ put e s (sorted_by e (filter_map f (filter q rows)))
-  sorted_by-put left makes apart [] all = ap (λ b. sorted_by e (filter_map f (cond b (r ∷ []) []))) left ∙ ap (λ y. sorted_by e (cons_option y [])) makes
-  sorted_by-put left makes apart (x ∷ xs) all = by_case (sorted_by-put left makes apart xs parts.1) (apart x parts.0) (o.compare (o.key r) (o.key x)) refl
+  sorted_by-put left makes apart [] all =
+      ap (λ b. sorted_by e (filter_map f (cond b (r ∷ []) []))) left ∙ ap (λ y. sorted_by e (cons_option y [])) makes
+  sorted_by-put left makes apart (x ∷ xs) all =
+      by_case (sorted_by-put left makes apart xs parts.1) (apart x parts.0) (o.compare (o.key r) (o.key x)) refl
     where
       parts : IsTrue (p x) × IsTrue (list_all p xs)
       parts = and_parts (p x) (list_all p xs) all
@@ -71,10 +82,13 @@ module _ {K L R S : Type 0} (o : Order K R) (e : Order L S) (total : IsTotalOrde
           → (b : Bool) → (found : Option S)
           → (b ≡ true → (y : S) → found ≡ Some y → e.compare (e.key y) (e.key s) ≡ Equal → ⊥)
           → sorted_by e (cond b (cons_option found (filter_map f (filter q (put o r xs)))) (filter_map f (filter q (put o r xs))))
-          ≡ put e s (sorted_by e (cond b (cons_option found (filter_map f (filter q xs))) (filter_map f (filter q xs))))
+          ≡ put e s (sorted_by e
+          (cond b (cons_option found (filter_map f (filter q xs))) (filter_map f (filter q xs))))
       by_row others false found other = others
       by_row others true None other = others
-      by_row others true (Some y) other = ap (put e y) others ∙ put_comm e total y s (sorted_by e (filter_map f (filter q xs))) (rises-sorted_by e total (filter_map f (filter q xs))) (other refl y refl)
+      by_row others true (Some y) other =
+          ap (put e y) others ∙ put_comm e total y s (sorted_by e (filter_map f (filter q xs)))
+          (rises-sorted_by e total (filter_map f (filter q xs))) (other refl y refl)
 
       pulled : (b : Bool) (ys : List R)
           → filter_map f (cond b (x ∷ ys) ys) ≡ cond b (cons_option (f x) (filter_map f ys)) (filter_map f ys)
@@ -84,9 +98,12 @@ module _ {K L R S : Type 0} (o : Order K R) (e : Order L S) (total : IsTotalOrde
       by_case : sorted_by e (filter_map f (filter q (put o r xs))) ≡ put e s (sorted_by e (filter_map f (filter q xs)))
           → (o.compare (o.key r) (o.key x) ≡ Equal → ⊥) × (q x ≡ true → (y : S) → f x ≡ Some y → e.compare (e.key y) (e.key s) ≡ Equal → ⊥)
           → (c : Ordering) → o.compare (o.key r) (o.key x) ≡ c
-          → sorted_by e (filter_map f (filter q (elim c [ Less ↦ r ∷ x ∷ xs | Equal ↦ r ∷ xs | Greater ↦ x ∷ put o r xs ]))) ≡ put e s (sorted_by e (filter_map f (filter q (x ∷ xs))))
+          → sorted_by e (filter_map f (filter q (elim c [ Less ↦ r ∷ x ∷ xs | Equal ↦ r ∷ xs | Greater ↦ x ∷ put o r xs ])))
+          ≡ put e s (sorted_by e (filter_map f (filter q (x ∷ xs))))
       by_case others own Less is =
-          ap (λ b. sorted_by e (filter_map f (cond b (r ∷ filter q (x ∷ xs)) (filter q (x ∷ xs))))) left ∙ ap (λ y. sorted_by e (cons_option y (filter_map f (filter q (x ∷ xs))))) makes
+          ap (λ b. sorted_by e (filter_map f (cond b (r ∷ filter q (x ∷ xs)) (filter q (x ∷ xs))))) left
+          ∙ ap (λ y. sorted_by e (cons_option y (filter_map f (filter q (x ∷ xs))))) makes
       by_case others own Equal is = absurd (own.0 is)
       by_case others own Greater is =
-          ap (sorted_by e) (pulled (q x) (filter q (put o r xs))) ∙ by_row others (q x) (f x) own.1 ∙ ap (λ ys. put e s (sorted_by e ys)) (sym (pulled (q x) (filter q xs)))
+          ap (sorted_by e) (pulled (q x) (filter q (put o r xs))) ∙ by_row others (q x) (f x) own.1
+          ∙ ap (λ ys. put e s (sorted_by e ys)) (sym (pulled (q x) (filter q xs)))

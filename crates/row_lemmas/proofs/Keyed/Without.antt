@@ -41,7 +41,8 @@ module _ {K R : Type 0} (o : Order K R) where
         by_case : (b : Bool) → let none : Option R = None in none ≡ cond b none none
         by_case true = refl
         by_case false = refl
-    row_at-without j k (x ∷ xs) = by_case (row_at-without j k xs) (has_key o j x) (has_key o k x) (is_eq (o.compare j k)) refl refl refl
+    row_at-without j k (x ∷ xs) =
+        by_case (row_at-without j k xs) (has_key o j x) (has_key o k x) (is_eq (o.compare j k)) refl refl refl
       where
         -- of two keys that a row has each ties with the other
         two : IsTrue (has_key o j x) → IsTrue (has_key o k x) → IsTrue (is_eq (o.compare j k))
@@ -55,7 +56,8 @@ module _ {K R : Type 0} (o : Order K R) where
 
         by_case : row_at o k (without o j xs) ≡ cond (is_eq (o.compare j k)) None (row_at o k xs) → (b c d : Bool)
             → has_key o j x ≡ b → has_key o k x ≡ c → is_eq (o.compare j k) ≡ d
-            → row_at o k (cond (not b) (x ∷ without o j xs) (without o j xs)) ≡ cond d None (cond c (Some x) (row_at o k xs))
+            → row_at o k (cond (not b) (x ∷ without o j xs) (without o j xs))
+            ≡ cond d None (cond c (Some x) (row_at o k xs))
         by_case others true true true jx kx jk = others ∙ ap (λ b. cond b None (row_at o k xs)) jk
         by_case others true true false jx kx jk =
             let clash : true ≡ false = sym (two jx kx) ∙ jk in
@@ -66,11 +68,16 @@ module _ {K R : Type 0} (o : Order K R) where
             let clash : false ≡ true = sym jx ∙ tied jk ∙ kx in
             absurd (cc clash)
         by_case others false true false jx kx jk = ap (λ b. cond b (Some x) (row_at o k (without o j xs))) kx
-        by_case others false false true jx kx jk = ap (λ b. cond b (Some x) (row_at o k (without o j xs))) kx ∙ others ∙ ap (λ b. cond b None (row_at o k xs)) jk
-        by_case others false false false jx kx jk = ap (λ b. cond b (Some x) (row_at o k (without o j xs))) kx ∙ others ∙ ap (λ b. cond b None (row_at o k xs)) jk
+        by_case others false false true jx kx jk =
+            ap (λ b. cond b (Some x) (row_at o k (without o j xs))) kx ∙ others
+            ∙ ap (λ b. cond b None (row_at o k xs)) jk
+        by_case others false false false jx kx jk =
+            ap (λ b. cond b (Some x) (row_at o k (without o j xs))) kx ∙ others
+            ∙ ap (λ b. cond b None (row_at o k xs)) jk
 
     pub row_at-without_same : (k : K) (rows : List R) → row_at o k (without o k rows) ≡ None
-    row_at-without_same k rows = row_at-without k k rows ∙ ap (λ c. cond (is_eq c) None (row_at o k rows)) (tied_itself total k)
+    row_at-without_same k rows =
+        row_at-without k k rows ∙ ap (λ c. cond (is_eq c) None (row_at o k rows)) (tied_itself total k)
 
     pub row_at-without_other : (j k : K) (rows : List R) → is_eq (o.compare j k) ≡ false
         → row_at o k (without o j rows) ≡ row_at o k rows
@@ -90,22 +97,28 @@ module _ {K R : Type 0} (o : Order K R) where
     pub without-put_new : (r : R) (rows : List R) → IsTrue (rises o rows) → row_at o (o.key r) rows ≡ None
         → without o (o.key r) (put o r rows) ≡ rows
     without-put_new r rows up none =
-        same_from_row_at o total (without o (o.key r) (put o r rows)) rows (rises-without o (o.key r) (put o r rows) (rises-put o total r rows up)) up
-        (λ k. row_at-without (o.key r) k (put o r rows) ∙ ap (λ b. cond b None (row_at o k (put o r rows))) (turned r k)
+        same_from_row_at o total (without o (o.key r) (put o r rows)) rows
+        (rises-without o (o.key r) (put o r rows) (rises-put o total r rows up)) up
+        (λ k. row_at-without (o.key r) k (put o r rows)
+        ∙ ap (λ b. cond b None (row_at o k (put o r rows))) (turned r k)
         ∙ ap (λ found. cond (has_key o k r) None found) (row_at-put o total k r rows) ∙ own k (has_key o k r) refl)
       where
         own : (k : K) (b : Bool) → has_key o k r ≡ b
             → cond b None (cond b (Some r) (row_at o k rows)) ≡ row_at o k rows
-        own k true is = sym (row_at_tied o total k (o.key r) rows (equal_from_is_eq (o.compare k (o.key r)) is) ∙ none)
+        own k true is =
+            sym (row_at_tied o total k (o.key r) rows (equal_from_is_eq (o.compare k (o.key r)) is) ∙ none)
         own k false is = refl
 
     -- a put over a delete of its key is a put
     pub put-without : (r : R) (rows : List R) → IsTrue (rises o rows)
         → put o r (without o (o.key r) rows) ≡ put o r rows
     put-without r rows up =
-        same_from_row_at o total (put o r (without o (o.key r) rows)) (put o r rows) (rises-put o total r (without o (o.key r) rows) (rises-without o (o.key r) rows up)) (rises-put o total r rows up)
+        same_from_row_at o total (put o r (without o (o.key r) rows)) (put o r rows)
+        (rises-put o total r (without o (o.key r) rows) (rises-without o (o.key r) rows up))
+        (rises-put o total r rows up)
         (λ k. row_at-put o total k r (without o (o.key r) rows)
-        ∙ ap (λ found. cond (has_key o k r) (Some r) found) (row_at-without (o.key r) k rows ∙ ap (λ b. cond b None (row_at o k rows)) (turned r k))
+        ∙ ap (λ found. cond (has_key o k r) (Some r) found)
+        (row_at-without (o.key r) k rows ∙ ap (λ b. cond b None (row_at o k rows)) (turned r k))
         ∙ own k (has_key o k r) ∙ sym (row_at-put o total k r rows))
       where
         own : (k : K) (b : Bool) → cond b (Some r) (cond b None (row_at o k rows)) ≡ cond b (Some r) (row_at o k rows)
