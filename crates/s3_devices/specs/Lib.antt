@@ -1,0 +1,5 @@
+pub mod DiskAnswers
+pub mod DiskBytes
+pub mod LinkAnswers
+pub mod Objects
+pub mod Told
