@@ -5,6 +5,7 @@ pub mod Handles
 pub mod Keys
 pub mod Kind
 pub mod Limits
+pub mod Mode
 pub mod Order
 pub mod Reading
 pub mod Subtree

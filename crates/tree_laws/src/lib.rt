@@ -12,6 +12,7 @@ mod names;
 mod numbers;
 mod removals;
 mod renames;
+mod replies;
 mod well_formed;
 
 pub use changes::changes_stay_in_one_node;
@@ -27,4 +28,5 @@ pub use removals::{reached_removal_removes_what_it_names, removal_removes_what_i
 pub use renames::{
     reached_renames_move_one_entry, renamed_moves_one_entry, renamed_stays_one_tree,
 };
+pub use replies::replies_have_modes;
 pub use well_formed::{made_trees_are_well_formed, well_formed_trees_stay_well_formed};

@@ -14,7 +14,7 @@ use Rattle.plain_tree.specs.Subtrees.{copied_content}
 use Rattle.plain_tree.specs.Tree.{Content, Regular, Directory, Link, Node, Tree, node_at, changed_by, named}
 use Rattle.plain_tree.specs.WellFormed.{IsWithinLimits, AreAttributes, AreWithinLimits, IsWithinRules, HaveModes, AreTimes, HasTimes}
 use Rattle.tree_laws.proofs.File.Bytes.{length-resized, le-padded}
-use Rattle.tree_laws.proofs.Node.Each.{EachEntry, each-insert_entry, each-remove_entry, Each, Changes, Keeps, each-tree_after}
+use Rattle.tree_laws.proofs.Node.Each.{EachEntry, each-insert_entry, each-remove_entry, Each, Changes, Keeps, each-found, each-tree_after}
 use Rattle.tree_laws.proofs.Walk.Calls.{walk-tree_after}
 use Rattle.tree_laws.proofs.Walk.Edits.{Edit, Mode, Mtime, Resize, Write, Attribute, NoAttribute, Entry, NoEntry, edited, Fits, NewNode, File, Folder, Symlink, built, Begins}
 use Rattle.tree_laws.proofs.Walk.Operations.{Walk}
@@ -124,6 +124,9 @@ each_from_modes (e ∷ es) have = (have.0, each_from_modes es have.1)
 modes_from_each : (es : List (ℕ × Node)) → Each HasMode es → HaveModes es
 modes_from_each [] each = _
 modes_from_each (e ∷ es) each = (each.0, modes_from_each es each.1)
+
+pub mode-node_at : (t : Tree) (x : ℕ) (node : Node) → HaveModes t.nodes → node_at t x ≡ Some node → node.mode ≤ 4095
+mode-node_at t x node have is = each-found HasMode (is_at (nat_cmp x)) t.nodes node (each_from_modes t.nodes have) is
 
 pub HaveModes-tree_after : (t : Tree) (pass now : ℕ) (op : Op) → HaveModes t.nodes → HaveModes (tree_after t pass op now).nodes
 HaveModes-tree_after t pass now op have = modes_from_each (tree_after t pass op now).nodes (each-tree_after HasMode now (keeps_mode now) t pass op (each_from_modes t.nodes have))
