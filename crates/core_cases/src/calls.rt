@@ -1,0 +1,149 @@
+//! The frame of a call, from its words.
+
+use case_words::bytes_of;
+use std::alloc::{AllocError, Global};
+use std::io;
+
+/// A field of an operation, and how its word is read.
+#[derive(Clone, Copy, Debug)]
+enum Field {
+    /// A number of eight bytes.
+    Long,
+    /// A number of four bytes.
+    Middle,
+    /// A number of two bytes, in octal.
+    Mode,
+    /// Bytes behind their length of two bytes.
+    Name,
+    /// Bytes behind their length of four bytes.
+    Data,
+}
+
+/// The code of an operation, and its fields.
+#[derive(Clone, Copy, Debug)]
+struct Shape {
+    code: u8,
+    fields: &'static [Field],
+}
+
+const INODE: &[Field] = &[Field::Long];
+
+const PLACE_AND_NUMBER: &[Field] = &[Field::Long, Field::Long];
+
+const ENTRY: &[Field] = &[
+    Field::Long,
+    Field::Name,
+    Field::Mode,
+    Field::Middle,
+    Field::Middle,
+];
+
+/// The shape of the operation that a word names.
+fn shape_of(word: &str) -> Option<Shape> {
+    let (code, fields): (u8, &'static [Field]) = match word {
+        "getattr" => (2, INODE),
+        "chmod" => (3, &[Field::Long, Field::Mode]),
+        "chown" => (4, &[Field::Long, Field::Middle, Field::Middle]),
+        "utimes" => (5, PLACE_AND_NUMBER),
+        "truncate" => (6, PLACE_AND_NUMBER),
+        "mkdir" => (7, ENTRY),
+        "create" => (8, ENTRY),
+        "open" => (15, INODE),
+        "release" => (16, INODE),
+        "read" => (17, &[Field::Long, Field::Long, Field::Middle]),
+        "write" => (18, &[Field::Long, Field::Long, Field::Data]),
+        "statfs" => (21, &[]),
+        "leave" => (32, &[]),
+        _ => return None,
+    };
+    Some(Shape { code, fields })
+}
+
+fn put_long(frame: &mut Vec<u8>, word: &str) -> Result<(), AllocError> {
+    match word.parse::<u64>() {
+        Ok(number) => frame.extend_from_slice(&number.to_be_bytes()),
+        Err(_) => Ok(()),
+    }
+}
+
+fn put_middle(frame: &mut Vec<u8>, word: &str) -> Result<(), AllocError> {
+    match word.parse::<u32>() {
+        Ok(number) => frame.extend_from_slice(&number.to_be_bytes()),
+        Err(_) => Ok(()),
+    }
+}
+
+fn put_mode(frame: &mut Vec<u8>, word: &str) -> Result<(), AllocError> {
+    match u16::from_str_radix(word, 8) {
+        Ok(number) => frame.extend_from_slice(&number.to_be_bytes()),
+        Err(_) => Ok(()),
+    }
+}
+
+fn put_name(alloc: Global, frame: &mut Vec<u8>, word: &str) -> io::Result<()> {
+    if let Some(bytes) = bytes_of(alloc, word)? {
+        if let Ok(length) = u16::try_from(bytes.len()) {
+            frame.extend_from_slice(&length.to_be_bytes())?;
+            frame.extend_from_slice(&bytes)?;
+        }
+    }
+    Ok(())
+}
+
+fn put_data(alloc: Global, frame: &mut Vec<u8>, word: &str) -> io::Result<()> {
+    if let Some(bytes) = bytes_of(alloc, word)? {
+        if let Ok(length) = u32::try_from(bytes.len()) {
+            frame.extend_from_slice(&length.to_be_bytes())?;
+            frame.extend_from_slice(&bytes)?;
+        }
+    }
+    Ok(())
+}
+
+/// Adds what a word says of a field. A word that says nothing adds nothing, and then no frame is made.
+fn put_field(alloc: Global, frame: &mut Vec<u8>, field: Field, word: &str) -> io::Result<()> {
+    match field {
+        Field::Long => put_long(frame, word)?,
+        Field::Middle => put_middle(frame, word)?,
+        Field::Mode => put_mode(frame, word)?,
+        Field::Name => put_name(alloc, frame, word)?,
+        Field::Data => put_data(alloc, frame, word)?,
+    }
+    Ok(())
+}
+
+/// The kind of a frame that has a call.
+const CALL: u8 = 1;
+
+/// What stands behind the length of the frame of a call: a pass, a time, and the words of an operation.
+fn body_of(alloc: Global, text: &str) -> io::Result<Vec<u8>> {
+    let mut body = Vec::new(alloc);
+    let mut words = text.split_whitespace();
+    let (Some(pass), Some(now), Some(word)) = (words.next(), words.next(), words.next()) else {
+        return Ok(body);
+    };
+    let Some(shape) = shape_of(word) else {
+        return Ok(body);
+    };
+    body.push(CALL)?;
+    put_long(&mut body, pass)?;
+    put_long(&mut body, now)?;
+    body.push(shape.code)?;
+    for field in shape.fields {
+        if let Some(word) = words.next() {
+            put_field(alloc, &mut body, *field, word)?;
+        }
+    }
+    Ok(body)
+}
+
+/// The frame of a call. Words that are no call make bytes that are no frame.
+pub fn frame_of(alloc: Global, text: &str) -> io::Result<Vec<u8>> {
+    let body = body_of(alloc, text)?;
+    let mut frame = Vec::new(alloc);
+    if let Ok(length) = u32::try_from(body.len()) {
+        frame.extend_from_slice(&length.to_be_bytes())?;
+        frame.extend_from_slice(&body)?;
+    }
+    Ok(frame)
+}

@@ -1,6 +1,0 @@
-use Rattle.std.proofs.Common.{Some}
-use Rattle.volume_core.specs.Standing.{CanAnswer}
-use Rattle.row_tests.proofs.fault_tests.replies.Given as goal
-
-abbrev pub invariant-loop-number : goal.invariant-loop-number
-invariant-loop-number l = CanAnswer (λ s. Some s.told) l.core
