@@ -7,6 +7,9 @@ mod parts;
 mod pieces;
 
 pub use blocks::{cut, patch, trimmed_len};
-pub use laws::{pieces_join, trimmed_form_stands_for_its_block};
+pub use laws::{
+    blocks_have_the_bytes_of_their_file, blocks_worked_by_hand, pieces_join,
+    resized_blocks_are_cut, trimmed_form_stands_for_its_block, written_blocks_are_patched,
+};
 pub use parts::Piece;
 pub use pieces::{count, piece};

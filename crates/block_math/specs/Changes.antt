@@ -1,0 +1,11 @@
+-- What a write and a change of its length do to the bytes of a file.
+use Rattle.std.specs.Prelude.{ℕ, ◌+◌, List, ◌++◌, length, take, drop}
+use Rattle.block_math.specs.Blocks.{padded}
+
+-- with the data at the offset: what it overlaps is replaced, and a gap is filled with zeros
+abbrev pub written_at : ℕ → List ℕ → List ℕ → List ℕ
+written_at offset new bytes = take offset (padded offset bytes) ++ new ++ drop (offset + length new) bytes
+
+-- cut, or lengthened with zeros
+abbrev pub resized : ℕ → List ℕ → List ℕ
+resized size bytes = take size (padded size bytes)
