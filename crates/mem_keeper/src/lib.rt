@@ -12,7 +12,5 @@ mod memory;
 mod pages;
 mod sorted;
 mod store;
-#[cfg(test)]
-mod tests;
 
 pub use memory::MemKeeper;
