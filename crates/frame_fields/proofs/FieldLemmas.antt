@@ -1,13 +1,12 @@
 -- The laws of the plain fields.
-use Rattle.std.proofs.Common.{◌≡◌, ℕ, ◌-◌, ◌^◌, ◌<◌, ◌≤◌, IsTrue, Bool, true, false, ◌&&◌, cond, eqb, leb, ltb, List, length, refl, sym, arith}
+use Rattle.std.proofs.Common.{◌≡◌, ℕ, ◌-◌, ◌^◌, ◌<◌, ◌≤◌, IsTrue, Bool, true, false, ◌&&◌, leb, ltb, List, length, refl, arith}
 use Rattle.std.specs.Int.{w16}
-use Rattle.std.proofs.lemmas.Bool.{and_parts, ltb-true, leb-true, eqb-true, eqb-false}
+use Rattle.std.proofs.lemmas.Bool.{and_parts, ltb-true, leb-true}
 use Rattle.s3_base.specs.declared.node_kind.Kind.{Kind}
 use Rattle.s3_base.specs.declared.node_kind.Kind.TheVariants as kinds
 use Rattle.frame_fields.specs.Format.{number, always, between}
 use Rattle.frame_fields.specs.Fields.{u16_field, u32_field, u64_field, name_field, data_length_field, data_field, pass_field, time_field, mode_field, item_count_field, short_name_field, digest_field, digest_or_none_field, kind_code, kind_of_code, node_kind_field, flag_code, flag_of_code, flag_field}
-use Rattle.frame_fields.proofs.Within.{cond_has}
-use Rattle.frame_fields.proofs.Formats.{IsFormat, number16_is, number32_is, number64_is, counted_is, fixed_is, coded_is}
+use Rattle.frame_fields.proofs.Formats.{IsFormat, number16_is, number32_is, number64_is, counted_is, fixed_is, ComesBack, numbered_is}
 use Rattle.frame_fields.proofs.Options.{optional_is}
 
 -- the highest value of a number that is checked
@@ -82,52 +81,19 @@ data_fits bytes h = at_most (length bytes) (2 ^ 32) 0 131072 h
 
 -- ---- values of few
 
-kind_again : (kind : Kind) → kind_of_code (kind_code kind) ≡ kind
-kind_again kinds.Directory = refl
-kind_again kinds.Regular = refl
-kind_again kinds.Link = refl
-
-kind_known : (kind : Kind) → (ltb (kind_code kind) 256 && between 1 3 (kind_code kind)) ≡ true
-kind_known kinds.Directory = refl
-kind_known kinds.Regular = refl
-kind_known kinds.Link = refl
-
-kind_back : (code : ℕ) → between 1 3 code ≡ true → kind_code (kind_of_code code) ≡ code
-kind_back code h =
-    let P : Kind → Type 0 = λ kind. kind_code kind ≡ code in
-    let parts = and_parts (leb 1 code) (leb code 3) h in
-    let low : 1 ≤ code = leb-true 1 code parts.0 in
-    let high : code ≤ 3 = leb-true code 3 parts.1 in
-    cond_has P (eqb code 1) kinds.Directory (cond (eqb code 2) kinds.Regular kinds.Link) (λ one. sym (eqb-true code 1 one))
-    (λ more. cond_has P (eqb code 2) kinds.Regular kinds.Link (λ two. sym (eqb-true code 2 two))
-    (λ three.
-    let some : code ≡ 1 → ⊥ = eqb-false code 1 more in
-    let others : code ≡ 2 → ⊥ = eqb-false code 2 three in
-    omega (arith, low, high, some, others)))
+kind_back : (kind : Kind) → ComesBack 1 3 kind_of_code kind_code kind
+kind_back kinds.Directory = (refl, refl)
+kind_back kinds.Regular = (refl, refl)
+kind_back kinds.Link = (refl, refl)
 
 pub node_kind_is : IsFormat node_kind_field 1
 unfolding node_kind_field
-node_kind_is = coded_is (between 1 3) kind_of_code kind_code kind_again kind_known kind_back
+node_kind_is = numbered_is 1 3 kind_of_code kind_code kind_back refl
 
-flag_again : (flag : Bool) → flag_of_code (flag_code flag) ≡ flag
-flag_again true = refl
-flag_again false = refl
-
-flag_known : (flag : Bool) → (ltb (flag_code flag) 256 && between 0 1 (flag_code flag)) ≡ true
-flag_known true = refl
-flag_known false = refl
-
--- by cases on a test, for the test itself
-cond_bool : (P : Bool → Type 0) (b : Bool) → (b ≡ true → P true) → (b ≡ false → P false) → P b
-cond_bool P true p q = p refl
-cond_bool P false p q = q refl
-
-flag_back : (code : ℕ) → between 0 1 code ≡ true → flag_code (flag_of_code code) ≡ code
-flag_back code h =
-    let high : code ≤ 1 = leb-true code 1 (and_parts (leb 0 code) (leb code 1) h).1 in
-    let P : Bool → Type 0 = λ flag. flag_code flag ≡ code in
-    cond_bool P (eqb code 1) (λ one. sym (eqb-true code 1 one)) (λ other. let apart : code ≡ 1 → ⊥ = eqb-false code 1 other in omega (arith, high, apart))
+flag_back : (flag : Bool) → ComesBack 0 1 flag_of_code flag_code flag
+flag_back true = (refl, refl)
+flag_back false = (refl, refl)
 
 pub flag_is : IsFormat flag_field 1
 unfolding flag_field
-flag_is = coded_is (between 0 1) flag_of_code flag_code flag_again flag_known flag_back
+flag_is = numbered_is 0 1 flag_of_code flag_code flag_back refl

@@ -1,13 +1,13 @@
 -- What each format keeps: what is read is spelled so and allowed, what is spelled so is read again, and bytes behind
 -- what was read, or behind a fault, change nothing.
-use Rattle.std.proofs.Common.{◌≡◌, ℕ, ◌+◌, ◌-◌, ◌^◌, ◌<◌, ◌≤◌, Bool, true, false, ◌&&◌, cond, eqb, ltb, List, [], ◌∷◌, ◌++◌, length, get_or, take, drop, Result, Ok, Err, refl, sym, ap, ap₂, subst, ◌∙◌, append_assoc, arith, inl, inr}
+use Rattle.std.proofs.Common.{◌≡◌, ℕ, zero, suc, ◌+◌, ◌-◌, ◌^◌, ◌<◌, ◌≤◌, Bool, true, false, ◌&&◌, cond, eqb, ltb, leb, List, [], ◌∷◌, ◌++◌, length, get_or, take, drop, Result, Ok, Err, refl, sym, ap, ap₂, subst, ◌∙◌, append_assoc, arith, inl, inr}
 use Rattle.std.specs.Int.{w16, w32, w64, byte_len, from_be_bytes, to_be_bytes}
-use Rattle.std.proofs.lemmas.Bool.{cases_lt, ltb-false, ltb-true, lt-ltb, le-ltb, eqb-true, eq-eqb, and_from, and_parts}
+use Rattle.std.proofs.lemmas.Bool.{cases_lt, ltb-false, ltb-true, lt-ltb, le-ltb, leb-true, eqb-true, eqb-false, eq-eqb, and_from, and_parts}
 use Rattle.std.proofs.lemmas.List.{take_at, drop_at, take-append-drop, length-append, length-take, get_or-drop, get_or-take, get_or_past, take-append-le, drop-append-le}
 use Rattle.std.proofs.lemmas.Nat.{be_bytes_2, be_bytes_4, be_bytes_8, from_be_bytes-to_be_bytes_2, from_be_bytes-to_be_bytes_4, from_be_bytes-to_be_bytes_8}
 use Rattle.frame_fields.specs.declared.fault.FrameFault.{FrameFault}
 use Rattle.frame_fields.specs.declared.fault.FrameFault.TheVariants as faults
-use Rattle.frame_fields.specs.Format.{Rest, past, ◌>>=◌, Format, front, checked, byte, number, counted, ◌▸◌, made, shaped, coded, fixed}
+use Rattle.frame_fields.specs.Format.{Rest, past, ◌>>=◌, Format, front, checked, between, byte, number, counted, ◌▸◌, made, shaped, coded, fixed}
 use Rattle.frame_fields.proofs.Within.{cond_has, stand, Within, Within-then, stayed, front_within, checked_within}
 
 abbrev pub IsBytes : List ℕ → Type 0
@@ -294,6 +294,33 @@ shaped_is make parts f most is there back = seen_is f most is make parts (λ y. 
 pub coded_is : {T : Type 0} (known : ℕ → Bool) (value : ℕ → T) (code : T → ℕ) → ((x : T) → value (code x) ≡ x) → ((x : T) → (ltb (code x) 256 && known (code x)) ≡ true) → ((c : ℕ) → known c ≡ true → code (value c) ≡ c) → IsFormat (coded known value code) 1
 coded_is known value code there inside back =
     seen_is (byte known) 1 (byte_is known) value code (λ x. true) there (λ c h. back c (and_parts (ltb c 256) (known c) h).1) (λ x h. inside x) (λ c h. refl)
+
+-- a test of so many numbers in a row
+abbrev pub all_from : (ℕ → Bool) → ℕ → ℕ → Bool
+all_from test low zero = true
+all_from test low (suc count) = test low && all_from test (low + 1) count
+
+passes_at : (test : ℕ → Bool) (low count : ℕ) → all_from test low count ≡ true → (c : ℕ) → low ≤ c → c < low + count → test c ≡ true
+passes_at test low zero all c le lt = absurd (omega (arith, le, lt))
+passes_at test low (suc count) all c le lt = by_case (passes_at test (low + 1) count (and_parts (test low) (all_from test (low + 1) count) all).1 c) (eqb c low) refl
+  where
+    by_case : (low + 1 ≤ c → c < (low + 1) + count → test c ≡ true) → (b : Bool) → eqb c low ≡ b → test c ≡ true
+    by_case rest true here = subst (λ k. test k ≡ true) (sym (eqb-true c low here)) (and_parts (test low) (all_from test (low + 1) count) all).0
+    by_case rest false other = let apart : c ≡ low → ⊥ = eqb-false c low other in rest (omega (arith, le, apart)) (omega (arith, lt))
+
+-- a value has a code from low to high, a byte, and comes back from it
+abbrev pub ComesBack : {T : Type 0} → ℕ → ℕ → (ℕ → T) → (T → ℕ) → T → Type 0
+ComesBack low high value code x = (value (code x) ≡ x) × ((ltb (code x) 256 && between low high (code x)) ≡ true)
+
+-- a value whose codes are all numbers from low to high
+pub numbered_is : {T : Type 0} (low high : ℕ) (value : ℕ → T) (code : T → ℕ) → ((x : T) → ComesBack low high value code x)
+    → all_from (λ c. eqb (code (value c)) c) low (high + 1 - low) ≡ true → IsFormat (coded (between low high) value code) 1
+numbered_is low high value code each back =
+    coded_is (between low high) value code (λ x. (each x).0) (λ x. (each x).1) (λ c h.
+    let parts = and_parts (leb low c) (leb c high) h in
+    let le : low ≤ c = leb-true low c parts.0 in
+    let most : c ≤ high = leb-true c high parts.1 in
+    eqb-true (code (value c)) c (passes_at (λ k. eqb (code (value k)) k) low (high + 1 - low) back c le (omega (arith, le, most))))
 
 -- ---- so many bytes, whose number is not told
 

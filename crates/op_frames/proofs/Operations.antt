@@ -1,8 +1,7 @@
 -- The laws of the operations and of the steps of a replay. Each shape of fields has a law, and each operation its line three
 -- times: its code and fields, its place in the row of codes, and its spelling.
-use Rattle.std.proofs.Common.{◌≡◌, ℕ, ◌≤◌, true, ◌&&◌, ◌||◌, cond, eqb, ltb, leb, length, refl, sym, ◌∙◌, arith}
+use Rattle.std.proofs.Common.{◌≡◌, ℕ, ◌≤◌, true, ◌||◌, eqb, length, refl, ◌∙◌, arith}
 use Rattle.std.proofs.Math.Bool.{or_comm}
-use Rattle.std.proofs.lemmas.Bool.{and_parts, eqb-true, eqb-false, leb-true}
 use Rattle.op_frames.specs.declared.operation.Op.{Op}
 use Rattle.op_frames.specs.declared.operation.Op.TheVariants.{Lookup, Getattr, Chmod, Chown, Utimes, Truncate, Mkdir, Create, Unlink, Rmdir, Rename, Link, Symlink, Readlink, Open, Release, Read, Write, Fsync, Readdir, Statfs, Setxattr, Getxattr, Listxattr, Removexattr, CopyTree, LockTree, RemoveTree, FlushCache, UploadMeta, CacheSize, Leave, Unmount}
 use Rattle.op_frames.specs.declared.operation.SetFlag.{SetFlag}
@@ -11,37 +10,20 @@ use Rattle.op_frames.specs.declared.operation.Step.{Step}
 use Rattle.op_frames.specs.declared.operation.Step.TheVariants.{Call, End}
 use Rattle.frame_fields.specs.Format.{Format, between}
 use Rattle.op_frames.specs.Operations.{set_flag_code, set_flag_of, set_flag_field, lookup_fields, getattr_fields, chmod_fields, chown_fields, utimes_fields, create_fields, rename_fields, link_fields, symlink_fields, read_fields, write_fields, readdir_fields, setxattr_fields, cache_size_fields, is_operation, operation_field, op_spelling, is_op, op_to_8, op_to_16, op_to_24, op_to_33, op_behind, op_field, is_step_kind, kind_field, call_fields, step_spelling, is_step, step_behind, step_field}
-use Rattle.frame_fields.proofs.Within.{cond_has}
-use Rattle.frame_fields.proofs.Formats.{IsFormat, coded_is, nothing, nothing_is, ◌then◌}
+use Rattle.frame_fields.proofs.Formats.{IsFormat, ComesBack, numbered_is, nothing, nothing_is, ◌then◌}
 use Rattle.frame_fields.proofs.FieldLemmas.{u16_is, u32_is, u64_is, pass_is, time_is, name_is, data_is}
 use Rattle.frame_fields.proofs.Tagged.{IsCase, Reads, only_case, or_case, fewer_codes, first_of_row, last_of_row, rows, Written, write_case, tagged_is}
 
 -- ---- which attributes may be set
 
--- the byte of a flag, and back
-flag_again : (flag : SetFlag) → set_flag_of (set_flag_code flag) ≡ flag
-flag_again flags.Any = refl
-flag_again flags.New = refl
-flag_again flags.Old = refl
-
-flag_allowed : (flag : SetFlag) → (ltb (set_flag_code flag) 256 && between 0 2 (set_flag_code flag)) ≡ true
-flag_allowed flags.Any = refl
-flag_allowed flags.New = refl
-flag_allowed flags.Old = refl
-
-flag_back : (code : ℕ) → code ≤ 2 → set_flag_code (set_flag_of code) ≡ code
-flag_back code le =
-    let P : SetFlag → Type 0 = λ flag. set_flag_code flag ≡ code in
-    cond_has P (eqb code 0) flags.Any (cond (eqb code 1) flags.New flags.Old) (λ h. sym (eqb-true code 0 h))
-    (λ h. cond_has P (eqb code 1) flags.New flags.Old (λ k. sym (eqb-true code 1 k))
-    (λ k.
-    let some : code ≡ 0 → ⊥ = eqb-false code 0 h in
-    let more : code ≡ 1 → ⊥ = eqb-false code 1 k in
-    omega (arith, some, more, le)))
+flag_back : (flag : SetFlag) → ComesBack 0 2 set_flag_of set_flag_code flag
+flag_back flags.Any = (refl, refl)
+flag_back flags.New = (refl, refl)
+flag_back flags.Old = (refl, refl)
 
 flag_is : IsFormat set_flag_field 1
 unfolding set_flag_field
-flag_is = coded_is (between 0 2) set_flag_of set_flag_code flag_again flag_allowed (λ code h. flag_back code (leb-true code 2 (and_parts (leb 0 code) (leb code 2) h).1))
+flag_is = numbered_is 0 2 set_flag_of set_flag_code flag_back refl
 
 -- ---- shapes of fields
 

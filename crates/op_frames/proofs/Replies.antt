@@ -1,12 +1,11 @@
 -- The laws of the replies. Each shape of fields has a law, and each reply its line three times: its tag and fields, its place
 -- in the row of tags, and its spelling.
-use Rattle.std.proofs.Common.{◌≡◌, ℕ, ◌+◌, ◌*◌, ◌≤◌, IsTrue, true, ◌&&◌, cond, eqb, ltb, leb, List, [], ◌∷◌, length, Option, None, Some, refl, sym, arith}
+use Rattle.std.proofs.Common.{◌≡◌, ℕ, ◌+◌, ◌*◌, ◌≤◌, IsTrue, true, ◌&&◌, List, [], ◌∷◌, length, Option, None, Some, refl, arith}
 use Rattle.std.specs.List.{list_all}
-use Rattle.std.proofs.lemmas.Bool.{and_parts, and_from, eqb-true, eqb-false, leb-true, le-leb}
+use Rattle.std.proofs.lemmas.Bool.{and_parts, and_from, le-leb}
 use Rattle.frame_fields.specs.Format.{Format, between}
 use Rattle.frame_fields.specs.Fields.{u32_field, u64_field, data_field, item_count_field, short_name_field, digest_field, digest_or_none_field, node_kind_field}
-use Rattle.frame_fields.proofs.Within.{cond_has}
-use Rattle.frame_fields.proofs.Formats.{IsFormat, coded_is, shaped_is, nothing, nothing_is, ◌then◌}
+use Rattle.frame_fields.proofs.Formats.{IsFormat, ComesBack, numbered_is, shaped_is, nothing, nothing_is, ◌then◌}
 use Rattle.frame_fields.proofs.FieldLemmas.{u16_is, u32_is, u64_is, data_is, data_fits, mode_is, item_count_is, few_items, short_name_is, short_name_length, digest_is, digest_or_none_is, node_kind_is, flag_is}
 use Rattle.frame_fields.proofs.Lists.{listed_is}
 use Rattle.frame_fields.proofs.Tagged.{IsCase, Reads, first_of_row, last_of_row, rows, Written, write_case, tagged_is}
@@ -20,36 +19,15 @@ use Rattle.op_frames.specs.Answers.{is_short_name, has_short_name, is_digest, is
 
 -- ---- causes
 
-cause_again : (cause : Cause) → cause_of_code (cause_code cause) ≡ cause
-cause_again causes.Link = refl
-cause_again causes.Keeper = refl
-cause_again causes.Disk = refl
-cause_again causes.Memory = refl
-
-cause_known : (cause : Cause) → (ltb (cause_code cause) 256 && between 1 4 (cause_code cause)) ≡ true
-cause_known causes.Link = refl
-cause_known causes.Keeper = refl
-cause_known causes.Disk = refl
-cause_known causes.Memory = refl
-
-cause_back : (code : ℕ) → between 1 4 code ≡ true → cause_code (cause_of_code code) ≡ code
-cause_back code h =
-    let P : Cause → Type 0 = λ cause. cause_code cause ≡ code in
-    let parts = and_parts (leb 1 code) (leb code 4) h in
-    let low : 1 ≤ code = leb-true 1 code parts.0 in
-    let high : code ≤ 4 = leb-true code 4 parts.1 in
-    cond_has P (eqb code 1) causes.Link (cond (eqb code 2) causes.Keeper (cond (eqb code 3) causes.Disk causes.Memory)) (λ one. sym (eqb-true code 1 one))
-    (λ past_one. cond_has P (eqb code 2) causes.Keeper (cond (eqb code 3) causes.Disk causes.Memory) (λ two. sym (eqb-true code 2 two))
-    (λ past_two. cond_has P (eqb code 3) causes.Disk causes.Memory (λ three. sym (eqb-true code 3 three))
-    (λ past_three.
-    let some : code ≡ 1 → ⊥ = eqb-false code 1 past_one in
-    let more : code ≡ 2 → ⊥ = eqb-false code 2 past_two in
-    let last : code ≡ 3 → ⊥ = eqb-false code 3 past_three in
-    omega (arith, low, high, some, more, last))))
+cause_back : (cause : Cause) → ComesBack 1 4 cause_of_code cause_code cause
+cause_back causes.Link = (refl, refl)
+cause_back causes.Keeper = (refl, refl)
+cause_back causes.Disk = (refl, refl)
+cause_back causes.Memory = (refl, refl)
 
 cause_is : IsFormat cause_field 1
 unfolding cause_field
-cause_is = coded_is (between 1 4) cause_of_code cause_code cause_again cause_known cause_back
+cause_is = numbered_is 1 4 cause_of_code cause_code cause_back refl
 
 -- ---- shapes of fields
 
