@@ -15,42 +15,19 @@ use Rattle.s3_rows.specs.Tables.{Tables}
 use Rattle.s3_rows.specs.Selections.{inode_at}
 use Rattle.s3_rows.specs.Validity.{is_regular, is_link}
 use Rattle.s3_rows.specs.Validity as rows
-use Rattle.tree_rows.specs.Shapes.{ContentShape, Regular, Directory, Link, NodeShape, TreeShape, shape_of_content, shape_of_node, node_of_row, Represents}
+use Rattle.tree_rows.specs.Shapes.{NodeShape, TreeShape, shape_of_node, node_of_row, Represents}
+use Rattle.tree_rows.proofs.Attributed.{kind_there}
 use Rattle.tree_rows.proofs.Replaced.{node_of}
 use Rattle.tree_rows.proofs.Shaped.{found_alike}
-use Rattle.tree_rows.proofs.Whole.{content_of_kind}
 use Rattle.op_checks.specs.Rows.{row_check, directory_row_check, file_row_check, link_row_check, no_directory_row_check, lock_row_check, open_row_check, ids_row_check}
 
 -- ---- kinds
-
-kind_of_shape : ContentShape → Kind
-kind_of_shape (Directory entries) = kinds.Directory
-kind_of_shape (Regular size) = kinds.Regular
-kind_of_shape (Link target) = kinds.Link
-
-kind_alike : (content : tree.Content) → kind_of content ≡ kind_of_shape (shape_of_content content)
-unfolding kind_of_shape
-kind_alike (tree.Regular bytes) = refl
-kind_alike (tree.Directory entries) = refl
-kind_alike (tree.Link target) = refl
-
-kind_is : (t : Tables) (r : Inode) (kind : Kind) → kind_of_shape (content_of_kind t r kind) ≡ kind
-unfolding kind_of_shape
-kind_is t r kinds.Directory = refl
-kind_is t r kinds.Regular = refl
-kind_is t r kinds.Link = refl
 
 -- the error with which a kind is no regular file
 abbrev not_regular : Kind → Option ℕ
 not_regular kinds.Regular = None
 not_regular kinds.Directory = Some eisdir
 not_regular kinds.Link = Some einval
-
--- the kind of a node that a row stands for
-pub kind_there : (t : Tables) (r : Inode) (node : Node) → shape_of_node node ≡ node_of_row t r → kind_of node.content ≡ r.kind
-kind_there t r node shape =
-    let content : shape_of_content node.content ≡ content_of_kind t r r.kind = ap (λ (s : NodeShape). s.content) shape in
-    kind_alike node.content ∙ ap kind_of_shape content ∙ kind_is t r r.kind
 
 -- ---- nodes of rows
 

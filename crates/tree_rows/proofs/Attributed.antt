@@ -66,6 +66,12 @@ size_of_row t r kinds.Directory is = sym (eqb-true r.size 0 is)
 size_of_row t r kinds.Regular is = refl
 size_of_row t r kinds.Link is = target_length r.size (target_at t r.id) is
 
+-- the kind of a node that a row stands for
+pub kind_there : (t : Tables) (r : Inode) (node : Node) → shape_of_node node ≡ node_of_row t r → kind_of node.content ≡ r.kind
+kind_there t r node shape =
+    let content : shape_of_content node.content ≡ content_of_kind t r r.kind = ap (λ (s : NodeShape). s.content) shape in
+    kind_alike node.content ∙ ap kind_of_shape content ∙ kind_of_row t r r.kind
+
 -- ---- of valid tables
 
 links_of : (t : Tables) (whole : Tree) (x : ℕ) (r : Inode) → IsValid t → Represents t whole → inode_at t x ≡ Some r → r.refcount < 2 ^ 62 → link_count whole x ≡ r.refcount
@@ -89,7 +95,7 @@ pub attr_alike : (t : Tables) (whole : Tree) (x : ℕ) (r : Inode) (node : Node)
 attr_alike t whole x r node v same is below shape =
     let content : shape_of_content node.content ≡ content_of_kind t r r.kind = ap (λ (s : NodeShape). s.content) shape in
     let size_test : IsTrue (has_its_size t r) = find_passes_all (has_key by_inode x) (has_its_size t) t.inodes r v.sizes.inodes is in
-    let kind : kind_of node.content ≡ r.kind = kind_alike node.content ∙ ap kind_of_shape content ∙ kind_of_row t r r.kind in
+    let kind : kind_of node.content ≡ r.kind = kind_there t r node shape in
     let size : size_of node.content ≡ r.size = size_alike node.content ∙ ap size_of_shape content ∙ size_of_row t r r.kind size_test in
     let links : link_count whole x ≡ r.refcount = links_of t whole x r v same is below in
     λ i. record {
