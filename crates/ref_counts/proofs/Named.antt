@@ -86,24 +86,7 @@ told_as told bytes a b same fact = subst (λ x. IfTold told (λ t. x ≡ option_
 
 pub same_params : (change : Change) (t : Tables) → ((p : Parameters) → change ≡ changes.SetParams p → ⊥) → t.params ≡ (after_change change t).params
 same_params (changes.SetParams p) t none = absurd (none p refl)
-same_params (changes.PutInode r) t none = refl
-same_params (changes.DeleteInode id) t none = refl
-same_params (changes.PutName r) t none = refl
-same_params (changes.DeleteName id) t none = refl
-same_params (changes.PutContent r) t none = refl
-same_params (changes.DeleteContent parent name_id) t none = refl
-same_params (changes.PutInodeBlock r) t none = refl
-same_params (changes.DeleteInodeBlock inode blockno) t none = refl
-same_params (changes.PutBlock r) t none = refl
-same_params (changes.DeleteBlock id) t none = refl
-same_params (changes.PutObject r) t none = refl
-same_params (changes.DeleteObject id) t none = refl
-same_params (changes.PutTarget r) t none = refl
-same_params (changes.DeleteTarget inode) t none = refl
-same_params (changes.PutAttr r) t none = refl
-same_params (changes.DeleteAttr inode name_id) t none = refl
-same_params (changes.PutSlot r) t none = refl
-same_params (changes.DeleteSlot slot) t none = refl
+same_params _ t none = refl
 
 -- ---- changes one by one
 
