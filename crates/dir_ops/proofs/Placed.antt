@@ -8,6 +8,7 @@ use Rattle.s3_base.specs.declared.node_kind.Kind.TheVariants as kinds
 use Rattle.plain_tree.specs.Tree as tree
 use Rattle.plain_tree.specs.Tree.{Node, Tree, node_at, entry_of}
 use Rattle.plain_tree.specs.Checks.{fails_with, first_failure, free_check, node_check, directory_check, lock_check, ids_check}
+use Rattle.plain_tree.proofs.Replies.{first_check_passes, other_checks_pass}
 use Rattle.s3_rows.specs.Rows.{Inode, Content, Parameters}
 use Rattle.s3_rows.specs.Tables.{Tables}
 use Rattle.s3_rows.specs.Selections.{inode_at}
@@ -37,15 +38,6 @@ kind_is : (kind : Kind) → fails_with enotdir (not (is_directory kind)) ≡ Non
 kind_is kinds.Directory passes = refl
 kind_is kinds.Regular passes = absurd (cc passes)
 kind_is kinds.Link passes = absurd (cc passes)
-
--- where none fails, the first does not
-first_passes : (check : Option ℕ) (checks : List (Option ℕ)) → first_failure (check ∷ checks) ≡ None → check ≡ None
-first_passes None checks passes = refl
-first_passes (Some errno) checks passes = absurd (cc passes)
-
-others_pass : (check : Option ℕ) (checks : List (Option ℕ)) → first_failure (check ∷ checks) ≡ None → first_failure checks ≡ None
-others_pass None checks passes = passes
-others_pass (Some errno) checks passes = absurd (cc passes)
 
 module _ (t : Tables) (whole : Tree) (v : IsValid t) (same : Represents t whole) (parent : ℕ) (name : List ℕ) where
   -- the name is free in a directory where no entry has it
@@ -95,14 +87,14 @@ module _ (t : Tables) (whole : Tree) (v : IsValid t) (same : Represents t whole)
         → Checks result (first_failure row_checks) → IsPlaced t whole parent name result
     placed params (Ok place) params_is here given own =
         let passes : first_failure row_checks ≡ None = own in
-        let there : first_failure (directory_row_check found ∷ lock_row_check found ∷ fails_with eexist taken ∷ ids_row_check p 1 ∷ fails_with enospc full ∷ []) ≡ None = others_pass (row_check found) _ passes in
-        let open_one : first_failure (lock_row_check found ∷ fails_with eexist taken ∷ ids_row_check p 1 ∷ fails_with enospc full ∷ []) ≡ None = others_pass (directory_row_check found) _ there in
-        let free_one : first_failure (fails_with eexist taken ∷ ids_row_check p 1 ∷ fails_with enospc full ∷ []) ≡ None = others_pass (lock_row_check found) _ open_one in
-        let folder : fails_with enotdir (not (is_directory (place.0).kind)) ≡ None = ap directory_row_check (sym here) ∙ first_passes (directory_row_check found) _ there in (
+        let there : first_failure (directory_row_check found ∷ lock_row_check found ∷ fails_with eexist taken ∷ ids_row_check p 1 ∷ fails_with enospc full ∷ []) ≡ None = other_checks_pass (row_check found) _ passes in
+        let open_one : first_failure (lock_row_check found ∷ fails_with eexist taken ∷ ids_row_check p 1 ∷ fails_with enospc full ∷ []) ≡ None = other_checks_pass (directory_row_check found) _ there in
+        let free_one : first_failure (fails_with eexist taken ∷ ids_row_check p 1 ∷ fails_with enospc full ∷ []) ≡ None = other_checks_pass (lock_row_check found) _ open_one in
+        let folder : fails_with enotdir (not (is_directory (place.0).kind)) ≡ None = ap directory_row_check (sym here) ∙ first_check_passes (directory_row_check found) _ there in (
           record {
             there = sym is ∙ here;
             kind = kind_is (place.0).kind folder;
-            free = sym taken_is ∙ not_taken taken (first_passes (fails_with eexist taken) _ free_one);
+            free = sym taken_is ∙ not_taken taken (first_check_passes (fails_with eexist taken) _ free_one);
             params = sym params_is ∙ given;
           },
           place_checks-rows ∙ passes,

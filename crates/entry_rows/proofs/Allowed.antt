@@ -10,6 +10,7 @@ use Rattle.plain_tree.specs.Tree as tree
 use Rattle.plain_tree.specs.Tree.{Node, Tree, node_at, entry_of}
 use Rattle.plain_tree.specs.Checks.{fails_with, first_failure, name_check, mode_check, node_check, directory_check, lock_check, free_check, ids_check, hand_check}
 use Rattle.plain_tree.specs.Operations.{checks}
+use Rattle.plain_tree.proofs.Replies.{first_check_passes, other_checks_pass}
 use Rattle.s3_rows.specs.Rows.{Inode, Content, Parameters}
 use Rattle.s3_rows.specs.Tables.{Tables}
 use Rattle.s3_rows.specs.Selections.{inode_at}
@@ -30,15 +31,6 @@ next_is t whole p same made =
     sym (ap (λ (s : TreeShape). s.next_inode) same) ∙ ap (λ (x : Option Parameters). unwrap_or (option_map (λ y. y.next_inode) x) 0) made
 
 -- ---- checks that do not fail
-
--- where no check fails, the first does not, and neither does any other
-own_passes : (c : Option ℕ) (rest : List (Option ℕ)) → first_failure (c ∷ rest) ≡ None → c ≡ None
-own_passes None rest is = refl
-own_passes (Some errno) rest is = absurd (cc is)
-
-rest_passes : (c : Option ℕ) (rest : List (Option ℕ)) → first_failure (c ∷ rest) ≡ None → first_failure rest ≡ None
-rest_passes None rest is = is
-rest_passes (Some errno) rest is = absurd (cc is)
 
 test_fails : (errno : ℕ) (b : Bool) → fails_with errno b ≡ None → b ≡ false
 test_fails errno true is = absurd (cc is)
@@ -113,16 +105,16 @@ allowed t whole p directory more pass parent mode uid gid now name v unique same
     let directory_on : List (Option ℕ) = directory_check (node_at whole parent) ∷ lock_on in
     let node_on : List (Option ℕ) = node_check (node_at whole parent) ∷ directory_on in
     let mode_on : List (Option ℕ) = mode_check mode ∷ node_on in
-    let after_name : first_failure mode_on ≡ None = rest_passes (name_check name) mode_on passes in
-    let after_mode : first_failure node_on ≡ None = rest_passes (mode_check mode) node_on after_name in
-    let after_node : first_failure directory_on ≡ None = rest_passes (node_check (node_at whole parent)) directory_on after_mode in
-    let after_directory : first_failure lock_on ≡ None = rest_passes (directory_check (node_at whole parent)) lock_on after_node in
-    let after_lock : first_failure free_on ≡ None = rest_passes (lock_check (node_at whole parent)) free_on after_directory in
-    let spelling : (length name ≤ 255) × (is_forbidden_name name ≡ false) = name_passes name (own_passes (name_check name) mode_on passes) in
+    let after_name : first_failure mode_on ≡ None = other_checks_pass (name_check name) mode_on passes in
+    let after_mode : first_failure node_on ≡ None = other_checks_pass (mode_check mode) node_on after_name in
+    let after_node : first_failure directory_on ≡ None = other_checks_pass (node_check (node_at whole parent)) directory_on after_mode in
+    let after_directory : first_failure lock_on ≡ None = other_checks_pass (directory_check (node_at whole parent)) lock_on after_node in
+    let after_lock : first_failure free_on ≡ None = other_checks_pass (lock_check (node_at whole parent)) free_on after_directory in
+    let spelling : (length name ≤ 255) × (is_forbidden_name name ≡ false) = name_passes name (first_check_passes (name_check name) mode_on passes) in
     let is_folder : directory_check (node_at whole directory.id) ≡ None =
-    ap (λ x. directory_check (node_at whole x)) (sym number) ∙ own_passes (directory_check (node_at whole parent)) lock_on after_node in
+    ap (λ x. directory_check (node_at whole x)) (sym number) ∙ first_check_passes (directory_check (node_at whole parent)) lock_on after_node in
     let is_free : free_check (node_at whole directory.id) name ≡ None =
-    ap (λ x. free_check (node_at whole x) name) (sym number) ∙ own_passes (free_check (node_at whole parent) name) after_free after_lock in
+    ap (λ x. free_check (node_at whole x) name) (sym number) ∙ first_check_passes (free_check (node_at whole parent) name) after_free after_lock in
     let kind : directory.kind ≡ kinds.Directory = kind_is t whole directory v same there is_folder in
     let creation : IsCreation t p directory (new_file_row p.next_inode mode uid gid now) more name = record {
       valid = v;

@@ -1,5 +1,5 @@
 -- What an operation does to the handles.
-use Rattle.std.proofs.Common.{◌≡◌, ℕ, ◌+◌, List, [], ◌∷◌, Bool, true, false, cond, Option, None, Some, refl, sym, subst, ◌∙◌, ◌++◌}
+use Rattle.std.proofs.Common.{◌≡◌, ℕ, ◌+◌, List, [], Bool, true, false, cond, Option, None, Some, refl, sym, subst, ◌∙◌, ◌++◌}
 use Rattle.std.specs.Prelude.{◌==◌, not, length, option_and_then}
 use Rattle.std.specs.BTreeMap.{insert_entry, is_at}
 use Rattle.std.specs.List.{filter}
@@ -11,7 +11,7 @@ use Rattle.plain_tree.specs.Checks.{first_failure, open_check}
 use Rattle.plain_tree.specs.Entries.{entry_at, lives, settled, add_entry, drop_entry}
 use Rattle.plain_tree.specs.Files.{file_at, inode_of}
 use Rattle.plain_tree.specs.Operations.{checks, effect, tree_after, new_file, new_directory, new_link, with_new_file, with_new_node}
-use Rattle.plain_tree.proofs.Replies.{tree_at}
+use Rattle.plain_tree.proofs.Replies.{first_check_passes, tree_at}
 use Rattle.plain_tree.specs.Below.{at_and_below}
 use Rattle.plain_tree.specs.Subtrees.{dropped, moved_entry, with_copy, with_lock, without_tree, is_same, copies}
 use Rattle.plain_tree.specs.Tree.{Tree, Node, Handle, node_at, handle_of, change_node, changed_by, without_node, with_node, with_handle, without_handle, stamped}
@@ -101,10 +101,6 @@ keeps-with_new_node parent name node now t =
 
 -- ---- a handle that the checks have found open
 
-first_passes : (check : Option ℕ) (others : List (Option ℕ)) → first_failure (check ∷ others) ≡ None → check ≡ None
-first_passes None others passes = refl
-first_passes (Some errno) others passes = absurd (cc passes)
-
 found_open : (t : Tree) (found : Option Handle) → open_check (option_and_then (λ (h : Handle). file_at t h.inode) found) ≡ None → (handle : Handle) × (found ≡ Some handle)
 found_open t None passes = absurd (cc passes)
 found_open t (Some handle) passes = (handle, refl)
@@ -144,7 +140,7 @@ effect-change t pass now (ops.Symlink parent name target uid gid) passes = Kept 
 effect-change t pass now (ops.Readlink inode) passes = Kept (same t)
 effect-change t pass now (ops.Open inode) passes = Opened (record { inode = inode; pass = pass }) refl refl refl
 effect-change t pass now (ops.Release number) passes =
-    let found = found_open t (handle_of t pass number) (first_passes _ [] passes) in
+    let found = found_open t (handle_of t pass number) (first_check_passes _ [] passes) in
     made_release t pass number now found.0 found.1
 effect-change t pass now (ops.Read number offset count) passes = Kept (same t)
 effect-change t pass now (ops.Write number offset bytes) passes =

@@ -1,5 +1,5 @@
 -- What the first failing check makes of reply and tree.
-use Rattle.std.proofs.Common.{◌≡◌, ℕ, List, [], Option, None, Some, sym, ap, ◌∙◌}
+use Rattle.std.proofs.Common.{◌≡◌, ℕ, List, [], ◌∷◌, Option, None, Some, refl, sym, ap, ◌∙◌}
 use Rattle.op_frames.specs.declared.operation.Op.{Op}
 use Rattle.op_frames.specs.declared.operation.Op.TheVariants as ops
 use Rattle.op_frames.specs.declared.reply.Reply.{Reply}
@@ -10,6 +10,18 @@ use Rattle.plain_tree.specs.Checks.{first_failure}
 use Rattle.plain_tree.specs.Operations.{checks, effect, success, reply_to, tree_after}
 use Rattle.plain_tree.specs.Pages.{directory_page, attribute_page}
 use Rattle.plain_tree.specs.Tree.{Tree, Node}
+
+-- ---- checks of which none fails
+
+pub first_check_passes : (check : Option ℕ) (others : List (Option ℕ)) → first_failure (check ∷ others) ≡ None → check ≡ None
+first_check_passes None others passes = refl
+first_check_passes (Some errno) others passes = absurd (cc passes)
+
+pub other_checks_pass : (check : Option ℕ) (others : List (Option ℕ)) → first_failure (check ∷ others) ≡ None → first_failure others ≡ None
+other_checks_pass None others passes = passes
+other_checks_pass (Some errno) others passes = absurd (cc passes)
+
+-- ---- the first failure
 
 pub reply_at : (t : Tree) (pass now : ℕ) (op : Op) (failure : Option ℕ) → first_failure (checks t pass op) ≡ failure
     → reply_to t pass op now ≡ elim failure [ Some errno ↦ replies.Errno (record { 0 = errno }) | None ↦ success t pass op now ]
