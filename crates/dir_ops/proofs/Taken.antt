@@ -1,6 +1,6 @@
 -- A directory has an entry of a name exactly where it has one of the name's id.
-use Rattle.std.proofs.Common.{◌≡◌, ℕ, List, [], ◌∷◌, Bool, true, false, cond, Option, None, Some, refl, sym, ap, ◌∙◌, subst, arith, ltb-true, eqb-true, eq-eqb}
-use Rattle.std.specs.Prelude.{IsTrue, not, ◌&&◌, ◌||◌, ◌==◌, nat_lt, is_some, find, option_map, unwrap_or}
+use Rattle.std.proofs.Common.{◌≡◌, ℕ, List, [], ◌∷◌, Bool, true, false, cond, Option, None, Some, refl, sym, ap, ◌∙◌, subst}
+use Rattle.std.specs.Prelude.{IsTrue, not, ◌&&◌, ◌||◌, ◌==◌, is_some, find, option_map, unwrap_or}
 use Rattle.std.specs.List.{list_all, list_any}
 use Rattle.std.specs.Cmp.{nat_cmp_total, tied_back, tied_itself}
 use Rattle.std.proofs.lemmas.Cmp.{nat_list_cmp_total}
@@ -15,9 +15,9 @@ use Rattle.s3_rows.specs.Tables.{Tables, by_name, by_entry}
 use Rattle.s3_rows.specs.Selections.{name_at, name_of_bytes, entry_at, bytes_cmp, bytes_of_name}
 use Rattle.s3_rows.specs.Told.{Told, IfTold}
 use Rattle.s3_rows.specs.Validity.{IsValid, HasUniqueNames, have_same_bytes, differ, finds_of_entry}
-use Rattle.row_lemmas.proofs.Tests.{find_passes, list_any_from_find, list_any_weaker, equal_from_is_eq, list_any-find, false_from_not}
+use Rattle.row_lemmas.proofs.Tests.{find_passes, list_any_from_find, list_any_weaker, equal_from_is_eq, list_any-find, false_from_not, eqb_comm, is_eq-nat_cmp}
 use Rattle.row_lemmas.proofs.Keyed.RowAt.{row_at_from_find}
-use Rattle.ref_counts.proofs.Named.{has_bytes}
+use Rattle.ref_counts.proofs.Named.{has_bytes, have_same_bytes_from_has_bytes}
 use Rattle.ref_counts.proofs.Told.{IfTold-weaker, IfTold-weaker2, IfTold-same}
 use Rattle.tree_rows.proofs.Listed.{is_entry, name_there}
 use Rattle.dir_ops.specs.Entries.{is_taken}
@@ -46,21 +46,6 @@ both_equal Less b = refl
 both_equal Equal b = refl
 both_equal Greater b = refl
 
-same_number : (a b : ℕ) → is_eq (nat_cmp a b) ≡ (b == a)
-same_number a b = by_case (nat_lt a b) refl (a == b) refl (b == a) refl
-  where
-    by_case : (c : Bool) → nat_lt a b ≡ c → (d : Bool) → (a == b) ≡ d → (e : Bool) → (b == a) ≡ e → is_eq (cond c Less (cond d Equal Greater)) ≡ e
-    by_case true less d is true back = absurd (omega (arith, ltb-true a b less, eqb-true b a back))
-    by_case true less d is false back = refl
-    by_case false less true is true back = refl
-    by_case false less true is false back =
-        let clash : true ≡ false = sym (eq-eqb b a (sym (eqb-true a b is))) ∙ back in
-        absurd (cc clash)
-    by_case false less false is true back =
-        let clash : true ≡ false = sym (eq-eqb a b (sym (eqb-true b a back))) ∙ is in
-        absurd (cc clash)
-    by_case false less false is false back = refl
-
 -- where no two rows are alike, two that pass a test of like rows are one
 module _ {R : Type 0} (alike : R → R → Bool) (q : R → Bool) (like : (x y : R) → IsTrue (q x) → IsTrue (q y) → IsTrue (alike x y)) where
   only_one : (p : R → Bool) (rows : List R) (n m : R) → IsTrue (differ alike rows) → find q rows ≡ Some n → find p rows ≡ Some m → IsTrue (q m) → n ≡ m
@@ -81,10 +66,6 @@ module _ {R : Type 0} (alike : R → R → Bool) (q : R → Bool) (like : (x y :
       by_case others false own found false other = others found other
 
 -- ---- names
-
-like : (bytes : List ℕ) (x y : Name) → IsTrue (has_bytes bytes x) → IsTrue (has_bytes bytes y) → IsTrue (have_same_bytes x y)
-like bytes x y one two =
-    ap is_eq (nat_list_cmp_total.congr x.name bytes y.name (equal_from_is_eq (bytes_cmp x.name bytes) one) ∙ tied_back nat_list_cmp_total y.name bytes (equal_from_is_eq (bytes_cmp y.name bytes) two))
 
 turned : (a b : List ℕ) → IsTrue (is_eq (bytes_cmp a b)) → IsTrue (is_eq (bytes_cmp b a))
 turned a b same = ap is_eq (tied_back nat_list_cmp_total a b (equal_from_is_eq (bytes_cmp a b) same))
@@ -112,7 +93,7 @@ module _ (t : Tables) (v : IsValid t) (unique : HasUniqueNames t) (bytes : List 
       back : IsTrue (is_eq (bytes_cmp bytes (bytes_of_name t c.name_id))) → IsTrue (is_eq (nat_cmp n.id c.name_id))
       back same =
           let row = named_so t bytes c (name_at t c.name_id) refl (name_there t c finds) same in
-          let one : n ≡ row.0 = only_one have_same_bytes (has_bytes bytes) (like bytes) (has_key by_name c.name_id) t.names n row.0 unique here row.1 row.2 in
+          let one : n ≡ row.0 = only_one have_same_bytes (has_bytes bytes) (have_same_bytes_from_has_bytes bytes) (has_key by_name c.name_id) t.names n row.0 unique here row.1 row.2 in
           let number : IsTrue (is_eq (nat_cmp c.name_id (row.0).id)) = find_passes (has_key by_name c.name_id) t.names row.0 row.1 in
           let equal : c.name_id ≡ n.id = nat_cmp-IsAntisymmetric c.name_id (row.0).id (equal_from_is_eq (nat_cmp c.name_id (row.0).id) number) ∙ ap (λ (x : Name). x.id) (sym one) in
           subst (λ x. IsTrue (is_eq (nat_cmp n.id x))) (sym equal) (ap is_eq (tied_itself nat_cmp_total n.id))
@@ -125,7 +106,7 @@ module _ (t : Tables) (v : IsValid t) (unique : HasUniqueNames t) (bytes : List 
     where
       each : (c : Content) → IsTrue (finds_of_entry t c) → has_key by_entry (parent, n.id) c ≡ is_entry t parent bytes c
       each c finds =
-          both_equal (nat_cmp parent c.parent) (nat_cmp n.id c.name_id) ∙ ap (λ b. b && is_eq (nat_cmp n.id c.name_id)) (same_number parent c.parent)
+          both_equal (nat_cmp parent c.parent) (nat_cmp n.id c.name_id) ∙ ap (λ b. b && is_eq (nat_cmp n.id c.name_id)) (is_eq-nat_cmp parent c.parent ∙ eqb_comm parent c.parent)
           ∙ ap (λ b. (c.parent == parent) && b) (same_name n here c finds)
 
   -- where it has none

@@ -1,5 +1,5 @@
 -- Tables with one more entry and the regular inode that it names: what each row finds, and how often each is named.
-use Rattle.std.proofs.Common.{◌≡◌, ℕ, ◌+◌, ◌≤◌, List, [], length, Bool, true, false, cond, Option, None, Some, refl, sym, ap, ◌∙◌, subst, arith, ltb-true, eqb-true, eq-eqb}
+use Rattle.std.proofs.Common.{◌≡◌, ℕ, ◌+◌, ◌≤◌, List, [], length, Bool, true, false, cond, Option, None, Some, refl, sym, ap, ◌∙◌, subst, arith, eq-eqb}
 use Rattle.std.specs.Prelude.{IsTrue, not, ◌&&◌, ◌||◌, ◌==◌, is_some, option_map, unwrap_or, count_by, nat_lt, nat_le}
 use Rattle.std.specs.List.{list_all, list_any}
 use Rattle.std.proofs.lemmas.List.Sums.{sum_by-cons}
@@ -19,7 +19,7 @@ use Rattle.s3_rows.specs.Selections.{inode_at, name_at, block_at, entry_at, targ
 use Rattle.s3_rows.specs.Counts.{listed_inode_count, listed_name_count}
 use Rattle.s3_base.specs.Numbers.{root}
 use Rattle.s3_rows.specs.Validity.{IsValid, HasItsRows, HasExactCounts, is_directory, is_regular, is_link, any_kind, has_inode, counts_inode, counts_name, finds_of_entry, finds_of_inode_block, finds_of_attr, finds_target}
-use Rattle.row_lemmas.proofs.Tests.{list_all_weaker, find_passes_all, equal_from_is_eq, is_eq-nat_cmp, list_all_weaker_both, list_all_from_list_any, is_some-find_none}
+use Rattle.row_lemmas.proofs.Tests.{list_all_weaker, find_passes_all, equal_from_is_eq, eqb_comm, is_eq-nat_cmp, list_all_weaker_both, list_all_from_list_any, is_some-find_none}
 use Rattle.row_lemmas.proofs.Sums.{count_by_none}
 use Rattle.row_lemmas.proofs.Keyed.Put.{row_at-put, list_all-put}
 use Rattle.row_lemmas.proofs.Keyed.Count.{count_by-put_new}
@@ -60,24 +60,7 @@ added t a = record t { params = Some (params_of t a); inodes = put by_inode a.ne
 -- ---- numbers and options
 
 pub apart_below : (x y : ℕ) → IsTrue (nat_lt x y) → (x == y) ≡ false
-apart_below x y less = by_case (x == y) refl
-  where
-    by_case : (c : Bool) → (x == y) ≡ c → c ≡ false
-    by_case true is = absurd (omega (arith, ltb-true x y less, eqb-true x y is))
-    by_case false is = refl
-
-pub eq_turned : (x y : ℕ) → (x == y) ≡ (y == x)
-eq_turned x y = by_case (x == y) refl (y == x) refl
-  where
-    by_case : (b : Bool) → (x == y) ≡ b → (c : Bool) → (y == x) ≡ c → b ≡ c
-    by_case true one true two = refl
-    by_case true one false two =
-        let clash : true ≡ false = sym (eq-eqb y x (sym (eqb-true x y one))) ∙ two in
-        absurd (cc clash)
-    by_case false one true two =
-        let clash : false ≡ true = sym one ∙ eq-eqb x y (sym (eqb-true y x two)) in
-        absurd (cc clash)
-    by_case false one false two = refl
+apart_below x y less = eqb_comm x y ∙ below_apart y x less
 
 is_some_map : {X Y : Type 0} (f : X → Y) (found : Option X) → is_some (option_map f found) ≡ is_some found
 is_some_map f None = refl

@@ -15,12 +15,12 @@ use Rattle.s3_rows.specs.Selections.{inode_at, target_at, bytes_cmp, bytes_of_na
 use Rattle.s3_rows.specs.Counts.{listed_inode_count}
 use Rattle.s3_base.specs.Numbers.{root}
 use Rattle.s3_rows.specs.Validity.{IsValid, HasOneTree, HasDistinctBlocks, HasItsSizes, HasFreeNumbers, is_directory, has_inode, is_named, finds_of_entry, parent_of, leads_to_root, is_below_root, is_named_once, has_legal_name, have_one_name, lost_and_found, is_lost_and_found, is_no_lost_directory, is_number, has_its_size, is_in_file, differ}
-use Rattle.row_lemmas.proofs.Tests.{list_all_weaker, find_passes, find_passes_all, list_any_from_find, find_from_list_any, list_all_weaker_both, list_all_from_list_any, differ_agree}
+use Rattle.row_lemmas.proofs.Tests.{list_all_weaker, find_passes, find_passes_all, list_any_from_find, find_from_list_any, list_all_weaker_both, list_all_from_list_any, differ_agree, eqb_comm}
 use Rattle.row_lemmas.proofs.Keyed.Put.{rises-put, list_all-put, length-put_new, list_any-put_new, find-put_new, differ-put}
 use Rattle.row_lemmas.proofs.Tables.{pair_cmp_total}
 use Rattle.tree_rows.proofs.Listed.{is_entry}
 use Rattle.entry_rows.proofs.NameUsed.{bytes_turned, below_apart}
-use Rattle.entry_rows.proofs.Added.{Addition, params_of, entry_of, added, eq_turned, numbers_below, below, told_any, told_kept, root_below, absent_inode, bytes_kept, bytes_new, has_name, has_parent, absent_entry, rows_added, listed_other, counts_added}
+use Rattle.entry_rows.proofs.Added.{Addition, params_of, entry_of, added, numbers_below, below, told_any, told_kept, root_below, absent_inode, bytes_kept, bytes_new, has_name, has_parent, absent_entry, rows_added, listed_other, counts_added}
 
 -- ---- either of two
 
@@ -89,7 +89,7 @@ module _ (t : Tables) (a : Addition t) where
       same x y one two = λ i. x.parent == y.parent && is_eq (bytes_cmp (bytes_kept t a x.name_id (has_name t a x one) i) (bytes_kept t a y.name_id (has_name t a y two) i))
 
       before : (c : Content) → IsTrue (finds_of_entry t c) → have_one_name (added t a) (entry_of t a) c ≡ is_entry t a.directory.id a.name c
-      before c finds = λ i. eq_turned a.directory.id c.parent i && is_eq (bytes_cmp (bytes_new t a i) (bytes_kept t a c.name_id (has_name t a c finds) i))
+      before c finds = λ i. eqb_comm a.directory.id c.parent i && is_eq (bytes_cmp (bytes_new t a i) (bytes_kept t a c.name_id (has_name t a c finds) i))
 
       after : (c : Content) → IsTrue (finds_of_entry t c) → have_one_name (added t a) c (entry_of t a) ≡ is_entry t a.directory.id a.name c
       after c finds =

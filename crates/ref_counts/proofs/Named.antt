@@ -1,10 +1,9 @@
 -- The name row with given bytes, after one change of tables.
-use Rattle.std.proofs.Common.{◌≡◌, ◌<◌, ◌+◌, add-one, ℕ, List, [], ◌∷◌, length, get_or, drop, drop-cons, Bool, true, false, cond, Option, None, Some, refl, sym, ap, ◌∙◌, subst, arith, ltb-true, eqb-true, eq-eqb}
-use Rattle.std.specs.Prelude.{IsTrue, ◌==◌, nat_lt, Result, Ok, Err, IfOk, option_map}
+use Rattle.std.proofs.Common.{◌≡◌, ◌<◌, ◌+◌, add-one, ℕ, List, [], ◌∷◌, length, get_or, drop, drop-cons, Bool, true, false, cond, Option, None, Some, refl, sym, ap, ◌∙◌, subst}
+use Rattle.std.specs.Prelude.{IsTrue, Result, Ok, Err, IfOk, option_map}
 use Rattle.std.specs.Cmp.{nat_cmp_total, tied_back}
 use Rattle.std.proofs.lemmas.Cmp.{nat_list_cmp_total}
-use Rattle.std.specs.declared.cmp.Ordering.TheVariants.{Less, Equal, Greater}
-use Rattle.std.specs.Ordering.{nat_cmp, is_eq}
+use Rattle.std.specs.Ordering.{is_eq}
 use Rattle.s3_rows.specs.declared.change.Change.{Change}
 use Rattle.s3_rows.specs.declared.change.Change.TheVariants as changes
 use Rattle.s3_rows.specs.Rows.{Name, Parameters}
@@ -13,37 +12,21 @@ use Rattle.s3_rows.specs.Batches.{after_change}
 use Rattle.s3_rows.specs.Selections.{name_at, name_of_bytes, bytes_cmp}
 use Rattle.s3_rows.specs.Told.{Told, IfTold}
 use Rattle.s3_rows.specs.Validity.{HasUniqueNames, have_same_bytes}
-use Rattle.row_lemmas.proofs.Tests.{equal_from_is_eq}
+use Rattle.row_lemmas.proofs.Tests.{equal_from_is_eq, eqb_comm, is_eq-nat_cmp}
 use Rattle.row_lemmas.proofs.Keyed.RowAt.{row_at_from_find}
 use Rattle.ref_counts.specs.Names.{other_than, after_put, StaysUnique}
 use Rattle.ref_counts.proofs.Overlay.{kept, put_is_found, put_takes, without_takes}
 
--- two tests of equal numbers
-same_test : (a b : ℕ) → is_eq (nat_cmp b a) ≡ (a == b)
-same_test a b = by_case (nat_lt b a) refl (b == a) refl (a == b) refl
-  where
-    by_case : (c : Bool) → nat_lt b a ≡ c → (d : Bool) → (b == a) ≡ d → (e : Bool) → (a == b) ≡ e → is_eq (cond c Less (cond d Equal Greater)) ≡ e
-    by_case true less d back true is = absurd (omega (arith, ltb-true b a less, eqb-true a b is))
-    by_case true less d back false is = refl
-    by_case false less true back true is = refl
-    by_case false less true back false is =
-        let clash : true ≡ false = sym (eq-eqb a b (sym (eqb-true b a back))) ∙ is in
-        absurd (cc clash)
-    by_case false less false back true is =
-        let clash : true ≡ false = sym (eq-eqb b a (sym (eqb-true a b is))) ∙ back in
-        absurd (cc clash)
-    by_case false less false back false is = refl
-
 other_is_kept : (id : ℕ) (found : Option Name) → other_than id found ≡ kept by_name id found
 other_is_kept id None = refl
-other_is_kept id (Some n) = ap (λ b. cond b None (Some n)) (sym (same_test n.id id))
+other_is_kept id (Some n) = ap (λ b. cond b None (Some n)) (sym (is_eq-nat_cmp id n.id ∙ eqb_comm id n.id))
 
 -- the test of bytes
 abbrev pub has_bytes : List ℕ → Name → Bool
 has_bytes bytes n = is_eq (bytes_cmp n.name bytes)
 
-like : (bytes : List ℕ) (x y : Name) → IsTrue (has_bytes bytes x) → IsTrue (has_bytes bytes y) → IsTrue (have_same_bytes x y)
-like bytes x y one two =
+pub have_same_bytes_from_has_bytes : (bytes : List ℕ) (x y : Name) → IsTrue (has_bytes bytes x) → IsTrue (has_bytes bytes y) → IsTrue (have_same_bytes x y)
+have_same_bytes_from_has_bytes bytes x y one two =
     ap is_eq (nat_list_cmp_total.congr x.name bytes y.name (equal_from_is_eq (bytes_cmp x.name bytes) one) ∙ tied_back nat_list_cmp_total y.name bytes (equal_from_is_eq (bytes_cmp y.name bytes) two))
 
 pub put_found : (t : Tables) (r : Name) (bytes : List ℕ) (found : Option Name) → found ≡ name_of_bytes t bytes → IsOrdered t → HasUniqueNames t → HasUniqueNames (after_change (changes.PutName r) t)
@@ -51,14 +34,14 @@ pub put_found : (t : Tables) (r : Name) (bytes : List ℕ) (found : Option Name)
 put_found t r bytes found is ordered unique now = by_case (has_bytes bytes r) refl
   where
     by_case : (b : Bool) → has_bytes bytes r ≡ b → cond b (Some r) (other_than r.id found) ≡ name_of_bytes (after_change (changes.PutName r) t) bytes
-    by_case true passes = sym (put_is_found by_name nat_cmp_total have_same_bytes (has_bytes bytes) (like bytes) r t.names passes now)
+    by_case true passes = sym (put_is_found by_name nat_cmp_total have_same_bytes (has_bytes bytes) (have_same_bytes_from_has_bytes bytes) r t.names passes now)
     by_case false fails =
-        other_is_kept r.id found ∙ ap (kept by_name r.id) is ∙ sym (put_takes by_name nat_cmp_total have_same_bytes (has_bytes bytes) (like bytes) r t.names fails ordered.names unique)
+        other_is_kept r.id found ∙ ap (kept by_name r.id) is ∙ sym (put_takes by_name nat_cmp_total have_same_bytes (has_bytes bytes) (have_same_bytes_from_has_bytes bytes) r t.names fails ordered.names unique)
 
 pub delete_found : (t : Tables) (id : ℕ) (bytes : List ℕ) (found : Option Name) → found ≡ name_of_bytes t bytes → HasUniqueNames t
     → other_than id found ≡ name_of_bytes (after_change (changes.DeleteName id) t) bytes
 delete_found t id bytes found is unique =
-    other_is_kept id found ∙ ap (kept by_name id) is ∙ sym (without_takes by_name nat_cmp_total have_same_bytes (has_bytes bytes) (like bytes) id t.names unique)
+    other_is_kept id found ∙ ap (kept by_name id) is ∙ sym (without_takes by_name nat_cmp_total have_same_bytes (has_bytes bytes) (have_same_bytes_from_has_bytes bytes) id t.names unique)
 
 -- a fact of what was answered, from another
 pub if_ok : {A E : Type 0} (P Q : A → Type 0) → ((x : A) → P x → Q x) → (r : Result A E) → IfOk r P → IfOk r Q

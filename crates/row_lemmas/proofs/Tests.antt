@@ -6,6 +6,7 @@ use Rattle.std.specs.declared.cmp.Ordering.{Ordering}
 use Rattle.std.specs.declared.cmp.Ordering.TheVariants.{Less, Equal, Greater}
 use Rattle.std.specs.Ordering.{nat_cmp, is_lt, is_eq, is_gt}
 use Rattle.std.proofs.lemmas.Bool.{and_parts, and_from}
+use Rattle.std.proofs.lemmas.Bool.Decides.{nat_tests}
 use Rattle.s3_rows.specs.Validity.{differ}
 
 -- ---- answers
@@ -30,6 +31,10 @@ greater_from_is_gt Equal is = absurd (cc is)
 greater_from_is_gt Greater is = refl
 
 -- two tests of equal numbers
+-- two numbers are equal either way round
+pub eqb_comm : (a b : ℕ) → (a == b) ≡ (b == a)
+eqb_comm a b = grind (arith, nat_tests)
+
 pub is_eq-nat_cmp : (a b : ℕ) → is_eq (nat_cmp a b) ≡ (a == b)
 is_eq-nat_cmp a b = by_case (nat_lt a b) refl (a == b) refl
   where
