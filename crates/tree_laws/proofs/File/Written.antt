@@ -24,6 +24,10 @@ changed_bytes f now node = touched now (record node { content = with_bytes f nod
 changed-is : (f : List ℕ → List ℕ) (now : ℕ) (node : Node) (old : List ℕ) → node.content ≡ Regular old → changed_bytes f now node ≡ with_content now (f old) node
 changed-is f now node old is = ap (λ content. touched now (record node { content = with_bytes f content })) is
 
+changed_there : (f : List ℕ → List ℕ) (now inode : ℕ) (t : Tree) (node : Node) (old : List ℕ) → node_at t inode ≡ Some node → node.content ≡ Regular old
+    → node_at (changed_by (changed_bytes f now) (Some node) inode t) inode ≡ Some (with_content now (f old) node)
+changed_there f now inode t node old was file = node_at-changed_by_same (changed_bytes f now) node inode t was ∙ ap Some (changed-is f now node old file)
+
 changed_node : (f : Node → Node) (inode : ℕ) (t : Tree) (node : Node) → node_at t inode ≡ Some node → change_node inode f t ≡ changed_by f (Some node) inode t
 changed_node f inode t node is = ap (λ found. changed_by f found inode t) is
 
@@ -56,8 +60,7 @@ written : (t : Tree) (inode offset now : ℕ) (text : List ℕ) (node : Node) (o
 written t inode offset now text node old was file =
     let f : Node → Node = changed_bytes (written_at offset text) now in
     let new : List ℕ = written_at offset text old in
-    let is : node_at (changed_by f (Some node) inode t) inode ≡ Some (with_content now new node) =
-    node_at-changed_by_same f node inode t was ∙ ap Some (changed-is (written_at offset text) now node old file) in
+    let is : node_at (changed_by f (Some node) inode t) inode ≡ Some (with_content now new node) = changed_there (written_at offset text) now inode t node old was file in
     record {
       node = node;
       old = old;
@@ -109,8 +112,7 @@ truncated : (t : Tree) (inode size now : ℕ) (node : Node) (old : List ℕ) →
 truncated t inode size now node old was file =
     let f : Node → Node = changed_bytes (resized size) now in
     let new : List ℕ = resized size old in
-    let is : node_at (changed_by f (Some node) inode t) inode ≡ Some (with_content now new node) =
-    node_at-changed_by_same f node inode t was ∙ ap Some (changed-is (resized size) now node old file) in
+    let is : node_at (changed_by f (Some node) inode t) inode ≡ Some (with_content now new node) = changed_there (resized size) now inode t node old was file in
     record {
       node = node;
       old = old;
