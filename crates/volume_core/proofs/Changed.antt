@@ -5,7 +5,7 @@ use Rattle.std.proofs.lemmas.Bool.{eqb-true, eq-eqb}
 use Rattle.std.proofs.lemmas.Bool.{cases_lt}
 use Rattle.std.proofs.lemmas.List.{replicate-append-replicate, take-append-le, take_all, drop_all, length-take, length-drop, length-replicate}
 use Rattle.plain_tree.specs.Tree as tree
-use Rattle.plain_tree.specs.Tree.{Node, Tree, node_at, changed_by, change_node, touched, with_node}
+use Rattle.plain_tree.specs.Tree.{Node, Tree, node_at, changed_by, change_node, touched}
 use Rattle.plain_tree.specs.Files.{padded, written_at, resized, bytes_of, file_at, with_bytes}
 use Rattle.tree_laws.proofs.Node.Reading.{node_at-changed_by_same, changed_by-changes_one}
 use Rattle.volume_core.specs.Files.{Files, bytes_at, IsChanged, AreSame, HasBytes}
@@ -105,26 +105,21 @@ node_changed f inode whole x = by_node (node_at whole inode) refl
 
 -- what a change of one node leaves
 module _ (f : Node → Node) (inode : ℕ) (whole : Tree) where
-  pub next_kept : (change_node inode f whole).next_inode ≡ whole.next_inode
-  next_kept = by_node (node_at whole inode)
+  kept : {A : Type 0} (read : Tree → A) → ((nodes : List (ℕ × Node)) → read (record whole { nodes = nodes }) ≡ read whole) → read (change_node inode f whole) ≡ read whole
+  kept read same = by_node (node_at whole inode)
     where
-      by_node : (found : Option Node) → (changed_by f found inode whole).next_inode ≡ whole.next_inode
+      by_node : (found : Option Node) → read (changed_by f found inode whole) ≡ read whole
       by_node None = refl
-      by_node (Some node) = refl
+      by_node (Some node) = same _
+
+  pub next_kept : (change_node inode f whole).next_inode ≡ whole.next_inode
+  next_kept = kept (λ t. t.next_inode) (λ nodes. refl)
 
   pub next_handle_kept : (change_node inode f whole).next_handle ≡ whole.next_handle
-  next_handle_kept = by_node (node_at whole inode)
-    where
-      by_node : (found : Option Node) → (changed_by f found inode whole).next_handle ≡ whole.next_handle
-      by_node None = refl
-      by_node (Some node) = refl
+  next_handle_kept = kept (λ t. t.next_handle) (λ nodes. refl)
 
   pub handles_kept : (change_node inode f whole).handles ≡ whole.handles
-  handles_kept = by_node (node_at whole inode)
-    where
-      by_node : (found : Option Node) → (changed_by f found inode whole).handles ≡ whole.handles
-      by_node None = refl
-      by_node (Some node) = refl
+  handles_kept = kept (λ t. t.handles) (λ nodes. refl)
 
 -- ---- both
 
