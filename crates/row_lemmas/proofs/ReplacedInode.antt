@@ -1,5 +1,5 @@
 -- Tables stay valid where a put replaces an inode's row by one of its kind and count.
-use Rattle.std.proofs.Common.{◌≡◌, ℕ, zero, suc, List, [], length, Bool, true, false, cond, not, ◌&&◌, ◌||◌, Option, None, Some, refl, sym, ap, ◌∙◌}
+use Rattle.std.proofs.Common.{◌≡◌, ℕ, [], length, Bool, true, false, cond, not, ◌&&◌, ◌||◌, Option, None, Some, refl, sym, ap, ◌∙◌}
 use Rattle.std.specs.Prelude.{IsTrue, ◌==◌, ◌*◌, is_some, option_map, nat_lt}
 use Rattle.std.specs.List.{list_all}
 use Rattle.std.specs.Cmp.{nat_cmp_total}
@@ -15,23 +15,10 @@ use Rattle.s3_rows.specs.Batches.{after_change}
 use Rattle.s3_rows.specs.Selections.{inode_at, name_at, block_at, target_at, bytes_of_name, bytes_cmp}
 use Rattle.s3_rows.specs.Counts.{listed_inode_count}
 use Rattle.s3_base.specs.Numbers.{root}
-use Rattle.s3_rows.specs.Validity.{IsValid, HasItsRows, HasOneTree, HasItsSizes, is_directory, is_regular, is_link, any_kind, has_inode, is_named, counts_inode, finds_of_entry, finds_of_inode_block, finds_of_attr, finds_target, parent_of, leads_to_root, is_below_root, is_named_once, lost_and_found, is_lost_and_found, is_no_lost_directory, is_number, has_its_size, is_in_file}
+use Rattle.s3_rows.specs.Validity.{IsValid, HasItsRows, HasOneTree, HasItsSizes, is_directory, is_regular, is_link, any_kind, has_inode, is_named, counts_inode, finds_of_entry, finds_of_inode_block, finds_of_attr, finds_target, leads_to_root, is_below_root, is_named_once, lost_and_found, is_lost_and_found, is_no_lost_directory, is_number, has_its_size, is_in_file}
 use Rattle.row_lemmas.proofs.Tests.{list_all_weaker, find_passes, find_passes_all, list_any_weaker, equal_from_is_eq}
-use Rattle.row_lemmas.proofs.Keyed.Put.{list_all-put, rises-put, row_at-put, length-put_there}
-
--- ---- steps to the root, whatever the rows of inodes are
-
-leads_same : (t : Tables) (rows : List Inode) (steps id : ℕ)
-    → leads_to_root steps (record t { inodes = rows }) id ≡ leads_to_root steps t id
-leads_same t rows zero id = refl
-leads_same t rows (suc steps) id = by_case (leads_same t rows steps) (parent_of t id)
-  where
-    by_case : ((x : ℕ) → leads_to_root steps (record t { inodes = rows }) x ≡ leads_to_root steps t x)
-        → (parent : Option ℕ)
-        → (id == root || elim parent [ Some x ↦ leads_to_root steps (record t { inodes = rows }) x | None ↦ false ])
-        ≡ (id == root || elim parent [ Some x ↦ leads_to_root steps t x | None ↦ false ])
-    by_case rest None = refl
-    by_case rest (Some x) = ap (λ b. id == root || b) (rest x)
+use Rattle.row_lemmas.proofs.Keyed.Put.{list_all-put, row_at-put, length-put_there}
+use Rattle.row_lemmas.proofs.Tables.{IsOrdered-after_change, leads_to_root_same}
 
 -- ---- a row of the same key, kind and count
 
@@ -93,8 +80,7 @@ module _ (t : Tables) (r new : Inode) (found : inode_at t new.id ≡ Some r) (ki
       let steps : length (put by_inode new t.inodes) ≡ length t.inodes =
       length-put_there by_inode nat_cmp_total new r t.inodes rise found in
       let leads : leads_to_root (length (put by_inode new t.inodes)) u y.id ≡ leads_to_root (length t.inodes) t y.id =
-      leads_same t (put by_inode new t.inodes) (length (put by_inode new t.inodes)) y.id
-      ∙ ap (λ n. leads_to_root n t y.id) steps in
+      leads_to_root_same t u refl (length (put by_inode new t.inodes)) y.id ∙ ap (λ n. leads_to_root n t y.id) steps in
       ap (λ b. not (is_directory y.kind) || b) leads
 
   rows_kept : HasItsRows t → HasItsRows u
@@ -180,17 +166,7 @@ module _ (t : Tables) (r new : Inode) (found : inode_at t new.id ≡ Some r) (ki
   kept v sizes = record {
     params = v.params;
     is_made = v.is_made;
-    ordered = record {
-      inodes = rises-put by_inode nat_cmp_total new t.inodes v.ordered.inodes;
-      names = v.ordered.names;
-      contents = v.ordered.contents;
-      inode_blocks = v.ordered.inode_blocks;
-      blocks = v.ordered.blocks;
-      objects = v.ordered.objects;
-      targets = v.ordered.targets;
-      attrs = v.ordered.attrs;
-      slots = v.ordered.slots;
-    };
+    ordered = IsOrdered-after_change (changes.PutInode new) t v.ordered;
     counts = record {
       inodes = passes (counts_inode t) (λ i. refcount i == listed_inode_count t (ids i)) v.counts.inodes;
       names = v.counts.names;

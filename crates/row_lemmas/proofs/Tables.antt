@@ -1,13 +1,15 @@
 -- What changes and batches make of the nine tables.
-use Rattle.std.proofs.Common.{false, ◌≡◌, ℕ, ◌+◌, ◌^◌, ◌<◌, List, [], ◌∷◌, ◌++◌, length, refl, ap, arith}
+use Rattle.std.proofs.Common.{false, ◌≡◌, ℕ, zero, suc, ◌+◌, ◌^◌, ◌<◌, List, [], ◌∷◌, ◌++◌, length, Option, None, Some, refl, ap, ◌∙◌, arith}
 use Rattle.std.specs.Cmp.{IsTotalOrder, nat_cmp_total, on_total, then_total}
 use Rattle.s3_rows.specs.declared.change.Change.{Change}
 use Rattle.s3_rows.specs.declared.change.Change.TheVariants as changes
-use Rattle.std.specs.Prelude.{IsTrue}
+use Rattle.std.specs.Prelude.{IsTrue, ◌==◌, ◌||◌, find, option_map}
 use Rattle.s3_rows.specs.Rows.{Inode, Name, Content, InodeBlock, Block, Object, Target, Attr, Slot}
 use Rattle.s3_rows.specs.Keyed.{pair_cmp, rises}
 use Rattle.s3_rows.specs.Tables.{Tables, IsOrdered, by_inode, by_name, by_entry, by_spot, by_block, by_object, by_target, by_attr, by_slot}
 use Rattle.s3_rows.specs.Batches.{after_change, finds_row, tables_after, tables_after_all}
+use Rattle.s3_base.specs.Numbers.{root}
+use Rattle.s3_rows.specs.Validity.{parent_of, leads_to_root}
 use Rattle.s3_rows.specs.Told.{Told, one_more, with_batch, with_batches}
 use Rattle.row_lemmas.proofs.Keyed.Put.{rises-put, put-put}
 use Rattle.row_lemmas.proofs.Keyed.Rises.{rises-without}
@@ -256,6 +258,19 @@ after_change_none (changes.DeleteAttr inode name_id) t none =
 after_change_none (changes.DeleteSlot slot) t none =
     ap (λ rows. record t { slots = rows }) (without_none by_slot slot t.slots none)
 after_change_none _ t none = absurd (cc none)
+
+-- ---- steps to the root, of which only the entries tell
+
+pub leads_to_root_same : (t u : Tables) → u.contents ≡ t.contents → (steps id : ℕ) → leads_to_root steps u id ≡ leads_to_root steps t id
+leads_to_root_same t u same zero id = refl
+leads_to_root_same t u same (suc steps) id =
+    ap (λ (rows : List Content). id == root || elim (option_map (λ r. r.parent) (find (λ r. r.inode == id) rows)) [ Some x ↦ leads_to_root steps u x | None ↦ false ]) same
+    ∙ by_case (leads_to_root_same t u same steps) (parent_of t id)
+  where
+    by_case : ((x : ℕ) → leads_to_root steps u x ≡ leads_to_root steps t x) → (parent : Option ℕ)
+        → (id == root || elim parent [ Some x ↦ leads_to_root steps u x | None ↦ false ]) ≡ (id == root || elim parent [ Some x ↦ leads_to_root steps t x | None ↦ false ])
+    by_case rest None = refl
+    by_case rest (Some x) = ap (λ b. id == root || b) (rest x)
 
 -- ---- what a keeper tells after batches
 

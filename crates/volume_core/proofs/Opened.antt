@@ -1,5 +1,5 @@
 -- A core that was just opened.
-use Rattle.std.proofs.Common.{◌≡◌, ℕ, zero, suc, List, [], ◌∷◌, length, Bool, true, false, Option, None, Some, refl, sym, ap, ◌∙◌, subst, arith, eqb-true}
+use Rattle.std.proofs.Common.{◌≡◌, ℕ, List, [], ◌∷◌, length, Bool, true, false, Option, None, Some, refl, sym, ap, ◌∙◌, subst, arith, eqb-true}
 use Rattle.std.specs.Prelude.{IsTrue, ◌==◌, ◌||◌, not, option_map, unwrap_or}
 use Rattle.std.specs.List.{list_all}
 use Rattle.plain_tree.specs.Tree.{Tree}
@@ -10,8 +10,8 @@ use Rattle.s3_rows.specs.Keyed.{has_key}
 use Rattle.s3_rows.specs.Tables.{Tables, by_inode}
 use Rattle.s3_rows.specs.Selections.{inode_at}
 use Rattle.s3_rows.specs.Told.{Told, one_more, with_batch}
-use Rattle.s3_base.specs.Numbers.{root}
-use Rattle.s3_rows.specs.Validity.{IsValid, is_directory, is_regular, parent_of, leads_to_root, is_below_root}
+use Rattle.s3_rows.specs.Validity.{IsValid, is_directory, is_regular, is_below_root}
+use Rattle.row_lemmas.proofs.Tables.{IsOrdered-after_change, leads_to_root_same}
 use Rattle.row_lemmas.proofs.Tests.{list_all_weaker, find_passes_all}
 use Rattle.tree_rows.specs.Shapes.{shape_of_tables, Represents}
 use Rattle.ref_counts.specs.Handles.{no_handles}
@@ -22,15 +22,6 @@ use Rattle.volume_core.specs.Standing.{StandsFor}
 use Rattle.volume_core.proofs.Looking.{is_file_row, file_there, no_file}
 
 -- ---- tables with other parameters
-
-leads_same : (t : Tables) (p : Option Parameters) (steps id : ℕ) → leads_to_root steps (record t { params = p }) id ≡ leads_to_root steps t id
-leads_same t p zero id = refl
-leads_same t p (suc steps) id = by_case (leads_same t p steps) (parent_of t id)
-  where
-    by_case : ((x : ℕ) → leads_to_root steps (record t { params = p }) x ≡ leads_to_root steps t x) → (parent : Option ℕ)
-        → (id == root || elim parent [ Some x ↦ leads_to_root steps (record t { params = p }) x | None ↦ false ]) ≡ (id == root || elim parent [ Some x ↦ leads_to_root steps t x | None ↦ false ])
-    by_case rest None = refl
-    by_case rest (Some x) = ap (λ b. id == root || b) (rest x)
 
 module _ (t : Tables) (v : IsValid t) where
   abbrev served_params : Parameters
@@ -43,17 +34,7 @@ module _ (t : Tables) (v : IsValid t) where
   served_valid = record {
     params = served_params;
     is_made = refl;
-    ordered = record {
-      inodes = v.ordered.inodes;
-      names = v.ordered.names;
-      contents = v.ordered.contents;
-      inode_blocks = v.ordered.inode_blocks;
-      blocks = v.ordered.blocks;
-      objects = v.ordered.objects;
-      targets = v.ordered.targets;
-      attrs = v.ordered.attrs;
-      slots = v.ordered.slots;
-    };
+    ordered = IsOrdered-after_change (changes.SetParams served_params) t v.ordered;
     counts = record { inodes = v.counts.inodes; names = v.counts.names; blocks = v.counts.blocks; objects = v.counts.objects };
     rows = record {
       entries = v.rows.entries;
@@ -68,7 +49,7 @@ module _ (t : Tables) (v : IsValid t) where
       is_rooted = v.tree.is_rooted;
       root_is_unnamed = v.tree.root_is_unnamed;
       named_once = v.tree.named_once;
-      below_root = list_all_weaker (is_below_root t) (is_below_root served) (λ r below. ap (λ b. not (is_directory r.kind) || b) (leads_same t (Some served_params) (length t.inodes) r.id) ∙ below) t.inodes v.tree.below_root;
+      below_root = list_all_weaker (is_below_root t) (is_below_root served) (λ r below. ap (λ b. not (is_directory r.kind) || b) (leads_to_root_same t served refl (length t.inodes) r.id) ∙ below) t.inodes v.tree.below_root;
       legal = v.tree.legal;
       unlike = v.tree.unlike;
       keeps_lost_and_found = v.tree.keeps_lost_and_found;
