@@ -40,14 +40,14 @@ attrs_climb = record { up = λ x y later. attr_up x y later }
 
 -- ---- the run of one number
 
-pub starts : {K R : Type 0} (o : Order K R) (first : R → ℕ) (climbs : Climbs o first) (n : ℕ) (xs : List R) → rises o xs ≡ true → IsPartitionedBy (λ x. nat_lt (first x) n) xs
+starts : {K R : Type 0} (o : Order K R) (first : R → ℕ) (climbs : Climbs o first) (n : ℕ) (xs : List R) → rises o xs ≡ true → IsPartitionedBy (λ x. nat_lt (first x) n) xs
 starts o first climbs n xs up = parted o (λ x. true) (λ x. nat_lt (first x) n) xs up (list_all_true xs) (λ x y _ later low. lower (first x) (first y) n (climbs.up x y later) low)
 
 left_is : {R : Type 0} (first : R → ℕ) (n : ℕ) (xs : List R) (start : ℕ) → start ≤ length xs → IsPartitionPoint (λ x. nat_lt (first x) n ≡ true) (λ x. nat_lt (first x) n ≡ false) xs start
     → filter (λ x. not (nat_lt (first x) n)) xs ≡ take (length xs - start) (drop start xs)
 left_is first n xs start within point = behind (λ x. not (nat_lt (first x) n)) (λ x. nat_lt (first x) n) (λ x. refl) xs start within point ∙ sym (take_rest xs start)
 
-pub goes_on : {K R : Type 0} (o : Order K R) (first : R → ℕ) (climbs : Climbs o first) (n : ℕ) (xs : List R) (start : ℕ) → rises o xs ≡ true → start ≤ length xs
+goes_on : {K R : Type 0} (o : Order K R) (first : R → ℕ) (climbs : Climbs o first) (n : ℕ) (xs : List R) (start : ℕ) → rises o xs ≡ true → start ≤ length xs
     → IsPartitionPoint (λ x. nat_lt (first x) n ≡ true) (λ x. nat_lt (first x) n ≡ false) xs start → IsPartitionedBy (λ x. first x == n) (take (length xs - start) (drop start xs))
 goes_on {K} {R} o first climbs n xs start up within point =
     let is : filter (λ x. not (nat_lt (first x) n)) xs ≡ take (length xs - start) (drop start xs) = left_is first n xs start within point in
@@ -56,7 +56,7 @@ goes_on {K} {R} o first climbs n xs start up within point =
     (subst (λ (l : List R). list_all (λ x. not (nat_lt (first x) n)) l ≡ true) is (list_all-filter_same (λ x. not (nat_lt (first x) n)) xs))
     (λ x y reached later here. same (first x) (first y) n reached (climbs.up x y later) here)
 
-pub run_is : {R : Type 0} (first : R → ℕ) (n : ℕ) (xs : List R) (start count : ℕ) → start ≤ length xs → IsPartitionPoint (λ x. nat_lt (first x) n ≡ true) (λ x. nat_lt (first x) n ≡ false) xs start
+run_is : {R : Type 0} (first : R → ℕ) (n : ℕ) (xs : List R) (start count : ℕ) → start ≤ length xs → IsPartitionPoint (λ x. nat_lt (first x) n ≡ true) (λ x. nat_lt (first x) n ≡ false) xs start
     → count ≤ length (take (length xs - start) (drop start xs)) → IsPartitionPoint (λ x. (first x == n) ≡ true) (λ x. (first x == n) ≡ false) (take (length xs - start) (drop start xs)) count
     → take count (take (length xs - start) (drop start xs)) ≡ filter (λ x. first x == n) xs
 run_is first n xs start count within point inside end =
@@ -64,3 +64,13 @@ run_is first n xs start count within point inside end =
     ∙ ap (filter (λ x. first x == n)) (sym (left_is first n xs start within point))
     ∙ filter-both (λ x. not (nat_lt (first x) n)) (λ x. first x == n) xs
     ∙ filter_agree (λ x. first x == n && not (nat_lt (first x) n)) (λ x. first x == n) (λ x. both (first x) n) xs
+
+-- what two partition points cut out of the rows of a table
+pub cut_is : {K R : Type 0} (o : Order K R) (first : R → ℕ) (climbs : Climbs o first) (n : ℕ) (xs : List R) (start count : ℕ) → rises o xs ≡ true
+    → start ≤ length xs → (IsPartitionedBy (λ x. nat_lt (first x) n) xs → IsPartitionPoint (λ x. nat_lt (first x) n ≡ true) (λ x. nat_lt (first x) n ≡ false) xs start)
+    → count ≤ length (take (length xs - start) (drop start xs))
+    → (IsPartitionedBy (λ x. first x == n) (take (length xs - start) (drop start xs)) → IsPartitionPoint (λ x. (first x == n) ≡ true) (λ x. (first x == n) ≡ false) (take (length xs - start) (drop start xs)) count)
+    → take count (take (length xs - start) (drop start xs)) ≡ filter (λ x. first x == n) xs
+cut_is o first climbs n xs start count up within from inside to =
+    run_is first n xs start count within (from (starts o first climbs n xs up)) inside
+    (to (goes_on o first climbs n xs start up within (from (starts o first climbs n xs up))))
