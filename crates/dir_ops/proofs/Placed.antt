@@ -13,7 +13,7 @@ use Rattle.s3_rows.specs.Rows.{Inode, Content, Parameters}
 use Rattle.s3_rows.specs.Tables.{Tables}
 use Rattle.s3_rows.specs.Selections.{inode_at}
 use Rattle.s3_rows.specs.Validity.{IsValid, is_directory}
-use Rattle.row_lemmas.proofs.Tests.{list_any-find}
+use Rattle.row_lemmas.proofs.Tests.{is_some-option_map, list_any-find}
 use Rattle.tree_rows.specs.Shapes.{NodeShape, shape_of_content, Represents}
 use Rattle.tree_rows.proofs.Listed.{is_entry, entry_in}
 use Rattle.tree_rows.proofs.Shaped.{entry_of_shape}
@@ -28,10 +28,6 @@ entry_alike : (content : tree.Content) (name : List ℕ) → entry_of content na
 entry_alike (tree.Regular bytes) name = refl
 entry_alike (tree.Directory entries) name = refl
 entry_alike (tree.Link target) name = refl
-
-is_some_map : {X Y : Type 0} (f : X → Y) (found : Option X) → is_some (option_map f found) ≡ is_some found
-is_some_map f None = refl
-is_some_map f (Some x) = refl
 
 -- a kind that passes is a directory
 kind_is : (kind : Kind) → fails_with enotdir (not (is_directory kind)) ≡ None → kind ≡ kinds.Directory
@@ -52,7 +48,7 @@ module _ (t : Tables) (whole : Tree) (v : IsValid t) (same : Represents t whole)
       ∙ ap (λ x. option_map inode_of (find (is_entry t x name) t.contents)) (sym (number_of t parent r there)) in
       ap (λ n. free_check n name) seen.1
       ∙ ap (λ found. fails_with eexist (is_some found)) entry
-      ∙ ap (fails_with eexist) (is_some_map inode_of (find (is_entry t parent name) t.contents) ∙ sym (list_any-find (is_entry t parent name) t.contents))
+      ∙ ap (fails_with eexist) (is_some-option_map inode_of (find (is_entry t parent name) t.contents) ∙ sym (list_any-find (is_entry t parent name) t.contents))
 
   -- the checks that need the tree are those on the rows: the name is asked for where the directory is one
   module _ (found : Option Inode) (is : found ≡ inode_at t parent) (taken : Bool) (taken_is : taken ≡ is_taken t parent name) (full : Bool) (full_is : full ≡ nat_le (2 ^ 62) whole.next_handle) (p : Parameters) (set : t.params ≡ Some p) where

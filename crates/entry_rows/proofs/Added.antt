@@ -1,6 +1,6 @@
 -- Tables with one more entry and the regular inode that it names: what each row finds, and how often each is named.
 use Rattle.std.proofs.Common.{◌≡◌, ℕ, ◌+◌, ◌≤◌, List, [], length, Bool, true, false, cond, Option, None, Some, refl, sym, ap, ◌∙◌, subst, arith, eq-eqb}
-use Rattle.std.specs.Prelude.{IsTrue, not, ◌&&◌, ◌||◌, ◌==◌, is_some, option_map, unwrap_or, count_by, nat_lt, nat_le}
+use Rattle.std.specs.Prelude.{IsTrue, not, ◌&&◌, ◌||◌, ◌==◌, is_some, unwrap_or, count_by, nat_lt, nat_le}
 use Rattle.std.specs.List.{list_all, list_any}
 use Rattle.std.proofs.lemmas.List.Sums.{sum_by-cons}
 use Rattle.std.specs.Cmp.{nat_cmp_total, tied_itself}
@@ -19,7 +19,7 @@ use Rattle.s3_rows.specs.Selections.{inode_at, name_at, block_at, entry_at, targ
 use Rattle.s3_rows.specs.Counts.{listed_inode_count, listed_name_count}
 use Rattle.s3_base.specs.Numbers.{root}
 use Rattle.s3_rows.specs.Validity.{IsValid, HasItsRows, HasExactCounts, is_directory, is_regular, is_link, any_kind, has_inode, counts_inode, counts_name, finds_of_entry, finds_of_inode_block, finds_of_attr, finds_target}
-use Rattle.row_lemmas.proofs.Tests.{list_all_weaker, find_passes_all, equal_from_is_eq, eqb_comm, is_eq-nat_cmp, list_all_weaker_both, list_all_from_list_any, is_some-find_none}
+use Rattle.row_lemmas.proofs.Tests.{list_all_weaker, find_passes_all, equal_from_is_eq, eqb_comm, is_eq-nat_cmp, list_all_weaker_both, list_all_from_list_any, is_some-find_none, is_some-option_map}
 use Rattle.row_lemmas.proofs.Sums.{count_by_none}
 use Rattle.row_lemmas.proofs.Keyed.Put.{row_at-put, list_all-put}
 use Rattle.row_lemmas.proofs.Keyed.Count.{count_by-put_new}
@@ -61,10 +61,6 @@ added t a = record t { params = Some (params_of t a); inodes = put by_inode a.ne
 
 pub apart_below : (x y : ℕ) → IsTrue (nat_lt x y) → (x == y) ≡ false
 apart_below x y less = eqb_comm x y ∙ below_apart y x less
-
-is_some_map : {X Y : Type 0} (f : X → Y) (found : Option X) → is_some (option_map f found) ≡ is_some found
-is_some_map f None = refl
-is_some_map f (Some x) = refl
 
 -- the parts of equal pairs
 pub pair_parts : (x y : ℕ × ℕ) → IsTrue (is_eq (pair_cmp x y)) → (x.0 ≡ y.0) × (x.1 ≡ y.1)
@@ -125,7 +121,7 @@ module _ (t : Tables) (a : Addition t) where
   -- ---- names
 
   pub name_kept : (x : ℕ) → IsTrue (is_some (name_at t x)) → IsTrue (is_some (name_at (added t a) x))
-  name_kept x has = sym (is_some_map bytes_of_row (name_at (added t a) x)) ∙ ap is_some (a.used.kept x has) ∙ is_some_map bytes_of_row (name_at t x) ∙ has
+  name_kept x has = sym (is_some-option_map bytes_of_row (name_at (added t a) x)) ∙ ap is_some (a.used.kept x has) ∙ is_some-option_map bytes_of_row (name_at t x) ∙ has
 
   pub bytes_kept : (x : ℕ) → IsTrue (is_some (name_at t x)) → bytes_of_name (added t a) x ≡ bytes_of_name t x
   bytes_kept x has = ap (λ (found : Option (List ℕ)). unwrap_or found []) (a.used.kept x has)
@@ -179,7 +175,7 @@ module _ (t : Tables) (a : Addition t) where
   entry_new =
       and_from (has_inode is_directory (added t a) a.directory.id && is_some (name_at (added t a) a.id)) (has_inode any_kind (added t a) a.new.id)
       (and_from (has_inode is_directory (added t a) a.directory.id) (is_some (name_at (added t a) a.id)) (told_kept (λ r. is_directory r.kind) a.directory.id folder_told)
-      (sym (is_some_map bytes_of_row (name_at (added t a) a.id)) ∙ ap is_some a.used.own))
+      (sym (is_some-option_map bytes_of_row (name_at (added t a) a.id)) ∙ ap is_some a.used.own))
       (ap (told (λ r. any_kind r.kind)) new_at)
 
   pub rows_added : HasItsRows (added t a)

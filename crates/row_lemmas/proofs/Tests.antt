@@ -1,6 +1,6 @@
 -- Tests of the items of a list: that all pass, that some passes, the first that passes, and those that pass.
 use Rattle.std.proofs.Common.{◌≡◌, ℕ, zero, suc, List, [], ◌∷◌, take, map, Bool, true, false, cond, Option, None, Some, refl, sym, ap, ◌∙◌, subst, arith, ltb-true, eqb-true}
-use Rattle.std.specs.Prelude.{IsTrue, not, ◌&&◌, ◌||◌, ◌==◌, nat_lt, is_some, find, filter}
+use Rattle.std.specs.Prelude.{IsTrue, not, ◌&&◌, ◌||◌, ◌==◌, nat_lt, is_some, option_map, find, filter}
 use Rattle.std.specs.List.{list_all, list_any, filter_map, cons_option}
 use Rattle.std.specs.declared.cmp.Ordering.{Ordering}
 use Rattle.std.specs.declared.cmp.Ordering.TheVariants.{Less, Equal, Greater}
@@ -14,6 +14,10 @@ use Rattle.s3_rows.specs.Validity.{differ}
 pub false_from_not : (b : Bool) → IsTrue (not b) → b ≡ false
 false_from_not true is = absurd (cc is)
 false_from_not false is = refl
+
+pub is_some-option_map : {X Y : Type 0} (f : X → Y) (found : Option X) → is_some (option_map f found) ≡ is_some found
+is_some-option_map f None = refl
+is_some-option_map f (Some x) = refl
 
 pub less_from_is_lt : (c : Ordering) → IsTrue (is_lt c) → c ≡ Less
 less_from_is_lt Less is = refl

@@ -13,7 +13,7 @@ use Rattle.s3_rows.specs.Keyed.{has_key, row_at, sorted_by}
 use Rattle.s3_rows.specs.Tables.{Tables}
 use Rattle.s3_rows.specs.Selections.{name_at, bytes_cmp, bytes_of_name, with_entry_name, named_entries, by_entry_name}
 use Rattle.s3_rows.specs.Validity.{finds_of_entry, has_inode, is_directory, any_kind, have_one_name, differ}
-use Rattle.row_lemmas.proofs.Tests.{list_any_weaker, list_any-find, false_from_not}
+use Rattle.row_lemmas.proofs.Tests.{is_some-option_map, list_any_weaker, list_any-find, false_from_not}
 use Rattle.row_lemmas.proofs.Sums.{sum_by-map}
 use Rattle.row_lemmas.proofs.Keyed.Sorted.{row_at-sorted_by, count_by-sorted_by}
 use Rattle.tree_rows.specs.Shapes.{Directory, entries_in}
@@ -117,12 +117,8 @@ differ-named t parent (c ∷ cs) unlike = by_case (differ-named t parent cs (and
 
     same_any : list_any (is_entry t parent (bytes_of_name t c.name_id)) cs ≡ list_any (has_key by_entry_name (bytes_of_name t c.name_id)) (map (named t) (filter (is_in parent) cs))
     same_any =
-        list_any-find (is_entry t parent (bytes_of_name t c.name_id)) cs ∙ is_some_map (find (is_entry t parent (bytes_of_name t c.name_id)) cs)
+        list_any-find (is_entry t parent (bytes_of_name t c.name_id)) cs ∙ sym (is_some-option_map (named t) (find (is_entry t parent (bytes_of_name t c.name_id)) cs))
         ∙ ap is_some (sym (found_listed t parent (bytes_of_name t c.name_id) cs)) ∙ sym (list_any-find (has_key by_entry_name (bytes_of_name t c.name_id)) (map (named t) (filter (is_in parent) cs)))
-      where
-        is_some_map : (found : Option Content) → is_some found ≡ is_some (option_map (named t) found)
-        is_some_map None = refl
-        is_some_map (Some x) = refl
 
     by_case : IsTrue (differ (λ a. has_key by_entry_name (by_entry_name.key a)) (map (named t) (filter (is_in parent) cs))) → (b : Bool) → is_in parent c ≡ b
         → IsTrue (differ (λ a. has_key by_entry_name (by_entry_name.key a)) (map (named t) (cond b (c ∷ filter (is_in parent) cs) (filter (is_in parent) cs))))
