@@ -1,0 +1,7 @@
+-- What each change of rows makes of the counts that tables owe, table by table.
+pub mod Contents
+pub mod Draws
+pub mod Ends
+pub mod Inodes
+pub mod Names
+pub mod Raised

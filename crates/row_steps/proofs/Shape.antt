@@ -1,0 +1,4 @@
+-- What each change of rows makes of the tree that tables represent.
+pub mod Entries
+pub mod Names
+pub mod Rows

@@ -1,0 +1,41 @@
+-- The changes of rows that operations are made of.
+use Rattle.std.specs.Prelude.{ℕ, ◌+◌, List, [], ◌∷◌, ◌++◌, false}
+use Rattle.s3_base.specs.declared.node_kind.Kind.TheVariants as kinds
+use Rattle.s3_rows.specs.declared.change.Change.{Change}
+use Rattle.s3_rows.specs.declared.change.Change.TheVariants as changes
+use Rattle.s3_rows.specs.Rows.{Inode, Parameters}
+use Rattle.s3_rows.specs.Tables.{Tables}
+use Rattle.s3_rows.specs.Batches.{after_change}
+use Rattle.ref_counts.specs.Names.{Raised}
+
+-- both times set
+abbrev pub touched_row : ℕ → Inode → Inode
+touched_row now r = record r { mtime = now; ctime = now }
+
+-- the next inode number is drawn
+abbrev pub drawn : Parameters → Parameters
+drawn p = record p { next_inode = p.next_inode + 1 }
+
+abbrev pub with_drawn : Parameters → Tables → Tables
+with_drawn p t = after_change (changes.SetParams (drawn p)) t
+
+-- the row of an empty file that one entry names: its number, mode, owner and time
+abbrev pub new_file_row : ℕ → ℕ → ℕ → ℕ → ℕ → Inode
+new_file_row id mode uid gid now = record {
+  id = id;
+  kind = kinds.Regular;
+  mode = mode;
+  uid = uid;
+  gid = gid;
+  mtime = now;
+  ctime = now;
+  refcount = 1;
+  size = 0;
+  locked = false;
+}
+
+-- A number is drawn and the name used once more; the entry names the new inode, and the directory is touched.
+abbrev pub creation : Parameters → Inode → Raised → Inode → ℕ → List Change
+creation p directory more new now =
+    changes.SetParams (drawn p) ∷ more.changes
+    ++ changes.PutContent (record { parent = directory.id; name_id = more.id; inode = new.id }) ∷ changes.PutInode new ∷ changes.PutInode (touched_row now directory) ∷ []

@@ -1,0 +1,13 @@
+//! What each change of rows makes of the counts that tables owe, and of the tree that they represent. Each law is the
+//! contract of a function without a body.
+#![tactic(auto)]
+
+mod debts;
+mod steps;
+
+pub use debts::{
+    drawn_numbers_are_free, entries_are_links_and_uses, lowered_names_owe_no_use,
+    new_inodes_owe_a_link, other_rows_owe_what_they_count, raised_names_owe_a_use,
+    tables_that_owe_nothing_have_the_premises, valid_tables_owe_nothing,
+};
+pub use steps::new_files_are_steps;

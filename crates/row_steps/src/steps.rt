@@ -1,0 +1,24 @@
+ghost use Rattle.std.specs.Prelude.{◌≡◌, ℕ, List, None, Some};
+ghost use Rattle.op_frames.specs.declared.operation.Op.TheVariants as ops;
+ghost use Rattle.plain_tree.specs.Tree.{Tree};
+ghost use Rattle.plain_tree.specs.Checks.{first_failure};
+ghost use Rattle.plain_tree.specs.Operations.{checks, effect};
+ghost use Rattle.plain_tree.specs.WellFormed.{IsWellFormed};
+ghost use Rattle.s3_rows.specs.Rows.{Inode, Parameters};
+ghost use Rattle.s3_rows.specs.Tables.{Tables};
+ghost use Rattle.s3_rows.specs.Batches.{tables_after};
+ghost use Rattle.s3_rows.specs.Selections.{inode_at};
+ghost use Rattle.s3_rows.specs.Validity.{IsValid, HasUniqueNames};
+ghost use Rattle.tree_rows.specs.Shapes.{Represents};
+ghost use Rattle.ref_counts.specs.Names.{Raised, raised};
+ghost use Rattle.ref_counts.specs.Plans.{IsStep};
+ghost use Rattle.row_steps.specs.RowChanges.{creation, new_file_row, with_drawn};
+
+/// Where no check of a Create fails, and its name may be used once more, its batch leaves valid tables that represent the tree
+/// with the new file.
+pub fn new_files_are_steps()
+    ensures { (t : Tables) (whole : Tree) (p : Parameters) (directory : Inode) (more : Raised) (pass parent mode uid gid now : ℕ) (name : List ℕ)
+        → IsValid t → HasUniqueNames t → IsWellFormed whole → Represents t whole → t.params ≡ Some p → inode_at t parent ≡ Some directory
+        → first_failure (checks whole pass (ops.Create parent name mode uid gid)) ≡ None → raised (with_drawn p t) name ≡ Some more
+        → IsStep t (tables_after (creation p directory more (new_file_row p.next_inode mode uid gid now) now) t) (effect whole pass (ops.Create parent name mode uid gid) now) 1 }
+{}
