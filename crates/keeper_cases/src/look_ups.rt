@@ -34,6 +34,11 @@ fn row_of_one(keeper: &mut MemKeeper, verb: &str, words: &Words<'_>) -> Option<F
             let found = keeper.block_by_digest(&digest);
             Some(found.map(|found| found.map(Row::Block)))
         }
+        "find" => {
+            let digest = fields::digest(words[0])?;
+            let found = hash_index::find(keeper, &digest);
+            Some(found.map(|found| found.map(Row::Block)))
+        }
         _ => None,
     }
 }
@@ -218,12 +223,13 @@ pub fn look_up(alloc: Global, keeper: &mut MemKeeper, text: &str) -> io::Result<
         "blocks_of" => blocks_of(alloc, keeper, &words),
         "slots" => slots(alloc, keeper, &words),
         "page" => page(alloc, keeper, &words),
-        "inode" | "name" | "holder" | "block" | "object" | "target" | "block_by_digest" => {
-            match row_of_one(keeper, verb, &words) {
-                Some(found) => found_text(alloc, found),
-                None => Ok(format!(in alloc; "no look-up")?),
+        "inode" | "name" | "holder" | "block" | "object" | "target" | "block_by_digest" | "find" =>
+            {
+                match row_of_one(keeper, verb, &words) {
+                    Some(found) => found_text(alloc, found),
+                    None => Ok(format!(in alloc; "no look-up")?),
+                }
             }
-        }
         _ => match row_of_two(keeper, verb, &words) {
             Some(found) => found_text(alloc, found),
             None => Ok(format!(in alloc; "no look-up")?),
