@@ -4,6 +4,7 @@
 
 mod debts;
 mod steps;
+mod trees;
 
 pub use debts::{
     drawn_numbers_are_free, entries_are_links_and_uses, lowered_names_owe_no_use,
@@ -11,3 +12,4 @@ pub use debts::{
     tables_that_owe_nothing_have_the_premises, valid_tables_owe_nothing,
 };
 pub use steps::new_files_are_steps;
+pub use trees::{entries_are_entries, name_rows_leave_the_tree, rows_are_nodes};

@@ -30,7 +30,7 @@ use Rattle.row_steps.proofs.Owed.Contents.{pair_parts}
 use Rattle.row_steps.proofs.Shape.Rows.{changed_represents}
 
 -- the bytes of a row with its name
-bytes_found : (c : Content) (found : Option Name) (y : NamedEntry) → option_map (λ (n : Name). let e : NamedEntry = record { row = c; name = n.name } in e) found ≡ Some y
+pub bytes_found : (c : Content) (found : Option Name) (y : NamedEntry) → option_map (λ (n : Name). let e : NamedEntry = record { row = c; name = n.name } in e) found ≡ Some y
     → unwrap_or (option_map (λ (n : Name). n.name) found) [] ≡ y.name
 bytes_found c None y is = absurd (cc is)
 bytes_found c (Some n) y is =
@@ -59,7 +59,7 @@ module _ (t : Tables) (c : Content) where
   bytes = bytes_of_name t c.name_id
 
   -- other directories keep their entries
-  entries_other : (id : ℕ) → (c.parent == id) ≡ false → entries_in after id ≡ entries_in t id
+  pub entries_other : (id : ℕ) → (c.parent == id) ≡ false → entries_in after id ≡ entries_in t id
   entries_other id other =
       ap (λ (rows : List Content). map (λ (e : NamedEntry). (e.name, e.row.inode)) (sorted_by by_entry_name (filter_map (with_entry_name t) rows)))
       (filter-put_false by_entry (is_in id) c t.contents other
@@ -91,7 +91,7 @@ module _ (t : Tables) (c : Content) where
     )
 
     -- the directory has one entry more
-    entries_own : entries_in after c.parent ≡ insert_entry (slice_cmp nat_cmp) (entries_in t c.parent) bytes c.inode
+    pub entries_own : entries_in after c.parent ≡ insert_entry (slice_cmp nat_cmp) (entries_in t c.parent) bytes c.inode
     entries_own =
         let inode_of : NamedEntry → ℕ = λ e. e.row.inode in
         let more : named_entries after c.parent ≡ put by_entry_name listed (named_entries t c.parent) =

@@ -1,0 +1,41 @@
+ghost use Rattle.std.specs.Prelude.{◌≡◌, ℕ, ◌+◌, List, false, is_some, IsTrue, Some};
+ghost use Rattle.s3_base.specs.declared.node_kind.Kind.TheVariants as kinds;
+ghost use Rattle.plain_tree.specs.Tree.{Node, Tree, with_node, without_node};
+ghost use Rattle.plain_tree.specs.Entries.{add_entry, drop_entry};
+ghost use Rattle.s3_rows.specs.declared.change.Change.TheVariants as changes;
+ghost use Rattle.s3_rows.specs.Rows.{Inode, Name, Content, Parameters};
+ghost use Rattle.s3_rows.specs.Tables.{Tables};
+ghost use Rattle.s3_rows.specs.Batches.{after_change};
+ghost use Rattle.s3_rows.specs.Selections.{inode_at, name_at, entry_at, bytes_of_name};
+ghost use Rattle.tree_rows.specs.Shapes.{shape_of_node, node_of_row, Represents};
+ghost use Rattle.row_steps.specs.Owed.{Owes, has_entry};
+ghost use Rattle.row_steps.specs.RowChanges.{drawn, touched_row};
+
+/// A row under the number that is drawn is a node more; a row that is deleted, one less.
+pub fn rows_are_nodes()
+    ensures put { (t : Tables) (whole : Tree) (p : Parameters) (new : Inode) (node : Node) → Represents t whole → t.params ≡ Some p → new.id ≡ p.next_inode
+        → shape_of_node node ≡ node_of_row t new → Represents (after_change (changes.PutInode new) (after_change (changes.SetParams (drawn p)) t)) (with_node node whole) }
+    ensures delete { (t : Tables) (whole : Tree) (p : Parameters) (id : ℕ) (links uses : List ℕ) → Owes t p links uses → Represents t whole
+        → Represents (after_change (changes.DeleteInode id) t) (without_node id whole) }
+{}
+
+/// A name row whose id has none, or one of the same bytes, leaves the tree.
+pub fn name_rows_leave_the_tree()
+    ensures { (t : Tables) (whole : Tree) (p : Parameters) (row : Name) (links uses : List ℕ) → Owes t p links uses
+        → ((old : Name) → name_at t row.id ≡ Some old → old.name ≡ row.name) → Represents t whole → Represents (after_change (changes.PutName row) t) whole }
+{}
+
+/// An entry that is put, where its directory has none of the name, is one more of the tree, and one that is deleted one less,
+/// where the directory is touched.
+pub fn entries_are_entries()
+    ensures put { (t : Tables) (whole : Tree) (p : Parameters) (directory : Inode) (c : Content) (now : ℕ) (links uses : List ℕ) → Owes t p links uses
+        → Represents t whole → directory.id ≡ c.parent → inode_at t directory.id ≡ Some directory → directory.kind ≡ kinds.Directory
+        → IsTrue (is_some (name_at t c.name_id)) → has_entry t c.parent (bytes_of_name t c.name_id) ≡ false
+        → Represents (after_change (changes.PutInode (touched_row now directory)) (after_change (changes.PutContent c) t))
+        (add_entry directory.id (bytes_of_name t c.name_id) c.inode now whole) }
+    ensures delete { (t : Tables) (whole : Tree) (p : Parameters) (directory : Inode) (c : Content) (now : ℕ) (links uses : List ℕ) → Owes t p links uses
+        → Represents t whole → directory.id ≡ c.parent → inode_at t directory.id ≡ Some directory → directory.kind ≡ kinds.Directory
+        → IsTrue (is_some (name_at t c.name_id)) → entry_at t c.parent c.name_id ≡ Some c
+        → Represents (after_change (changes.PutInode (touched_row now directory)) (after_change (changes.DeleteContent c.parent c.name_id) t))
+        (drop_entry directory.id (bytes_of_name t c.name_id) now whole) }
+{}
