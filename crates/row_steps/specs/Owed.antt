@@ -1,8 +1,8 @@
 -- Tables on the way of an operation: how far stored counts are ahead of the listed ones.
-use Rattle.std.specs.Prelude.{◌≡◌, ℕ, ◌+◌, ◌==◌, List, [], ◌∷◌, Bool, ◌&&◌, nat_lt, nat_le, IsTrue, Some, if◌then◌else◌}
+use Rattle.std.specs.Prelude.{◌≡◌, ℕ, ◌+◌, ◌==◌, List, [], ◌∷◌, Bool, not, ◌&&◌, nat_lt, nat_le, IsTrue, Some, if◌then◌else◌}
 use Rattle.std.specs.List.{list_all, list_any}
 use Rattle.std.specs.Ordering.{is_eq}
-use Rattle.s3_rows.specs.Rows.{Inode, Name, Parameters}
+use Rattle.s3_rows.specs.Rows.{Inode, Name, Content, InodeBlock, Target, Attr, Slot, Parameters}
 use Rattle.s3_rows.specs.Tables.{Tables, IsOrdered}
 use Rattle.s3_rows.specs.Selections.{bytes_cmp, bytes_of_name}
 use Rattle.s3_rows.specs.Counts.{listed_inode_count, listed_name_count}
@@ -43,3 +43,11 @@ pub record Owes (t : Tables) (p : Parameters) (links uses : List ℕ) : Type 0 w
   -- the next inode number is above all, and above all that entries name
   pub numbers : IsTrue (list_all (λ r. nat_lt r.id p.next_inode) t.inodes)
   pub children : IsTrue (list_all (λ r. nat_lt r.inode p.next_inode) t.contents)
+
+-- no row names the inode as a directory, as a file with blocks or slots, as a link with a target, or as one with attributes
+pub record HasNothing (t : Tables) (id : ℕ) : Type 0 where
+  pub entries : IsTrue (list_all (λ (r : Content). not (r.parent == id)) t.contents)
+  pub inode_blocks : IsTrue (list_all (λ (r : InodeBlock). not (r.inode == id)) t.inode_blocks)
+  pub targets : IsTrue (list_all (λ (r : Target). not (r.inode == id)) t.targets)
+  pub attrs : IsTrue (list_all (λ (r : Attr). not (r.inode == id)) t.attrs)
+  pub slots : IsTrue (list_all (λ (r : Slot). not (r.inode == id)) t.slots)

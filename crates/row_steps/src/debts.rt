@@ -1,17 +1,18 @@
-ghost use Rattle.std.specs.Prelude.{◌≡◌, ◌≤◌, ℕ, ◌+◌, ◌==◌, List, [], ◌∷◌, false, nat_lt, IsTrue, None, Some};
+ghost use Rattle.std.specs.Prelude.{◌≡◌, ℕ, ◌+◌, ◌==◌, List, [], ◌∷◌, length, false, nat_lt, IsTrue, None, Some};
 ghost use Rattle.std.specs.List.{list_all};
 ghost use Rattle.s3_base.specs.Numbers.{root};
+ghost use Rattle.s3_base.specs.declared.node_kind.Kind.TheVariants as kinds;
 ghost use Rattle.s3_rows.specs.declared.change.Change.TheVariants as changes;
-ghost use Rattle.s3_rows.specs.Rows.{Inode, Name, Content, Parameters};
+ghost use Rattle.s3_rows.specs.Rows.{Inode, Name, Content, Target, Attr, Parameters};
 ghost use Rattle.s3_rows.specs.Tables.{Tables};
 ghost use Rattle.s3_rows.specs.Batches.{after_change, tables_after};
 ghost use Rattle.s3_rows.specs.Counts.{listed_inode_count};
-ghost use Rattle.s3_rows.specs.Selections.{inode_at, name_at, entry_at, bytes_of_name};
-ghost use Rattle.s3_rows.specs.Validity.{IsValid};
+ghost use Rattle.s3_rows.specs.Selections.{inode_at, name_at, entry_at, attr_at, bytes_of_name};
+ghost use Rattle.s3_rows.specs.Validity.{IsValid, finds_of_attr};
 ghost use Rattle.tree_rows.specs.Premises.{HasPremises, finds_directory_and_name, fits_kind};
 ghost use Rattle.ref_counts.specs.Names.{Raised, raised};
-ghost use Rattle.row_steps.specs.Owed.{Owes, has_entry, times};
-ghost use Rattle.row_steps.specs.RowChanges.{drawn};
+ghost use Rattle.row_steps.specs.Owed.{HasNothing, Owes, has_entry, times};
+ghost use Rattle.row_steps.specs.RowChanges.{drawn, lowered};
 
 /// Valid tables owe nothing.
 pub fn valid_tables_owe_nothing()
@@ -55,12 +56,10 @@ pub fn raised_names_owe_a_use()
         → (next : ℕ) × Owes (tables_after more.changes t) (record p { next_name = next }) links (more.id ∷ uses) }
 {}
 
-/// A name that is used once less owes it no more: its count is one less, or its row goes.
+/// A name that is used once less owes it no more.
 pub fn lowered_names_owe_no_use()
-    ensures less { (t : Tables) (p : Parameters) (n : Name) (count : ℕ) (links uses : List ℕ) → Owes t p links (n.id ∷ uses) → name_at t n.id ≡ Some n
-        → count + 1 ≡ n.refcount → 1 ≤ count → Owes (after_change (changes.PutName (record n { refcount = count })) t) p links uses }
-    ensures last { (t : Tables) (p : Parameters) (n : Name) (links uses : List ℕ) → Owes t p links (n.id ∷ uses) → name_at t n.id ≡ Some n
-        → n.refcount ≡ 1 → Owes (after_change (changes.DeleteName n.id) t) p links uses }
+    ensures { (t : Tables) (p : Parameters) (n : Name) (links uses : List ℕ) → Owes t p links (n.id ∷ uses) → name_at t n.id ≡ Some n
+        → Owes (tables_after (lowered n) t) p links uses }
 {}
 
 /// An entry that is put, where its directory has none of the name, is the link and the use that were owed; one that is deleted
@@ -71,4 +70,27 @@ pub fn entries_are_links_and_uses()
         → IsTrue (nat_lt c.inode p.next_inode) → Owes (after_change (changes.PutContent c) t) p links uses }
     ensures delete { (t : Tables) (p : Parameters) (c : Content) (links uses : List ℕ) → Owes t p links uses → entry_at t c.parent c.name_id ≡ Some c
         → (c.inode == root) ≡ false → Owes (after_change (changes.DeleteContent c.parent c.name_id) t) p (c.inode ∷ links) (c.name_id ∷ uses) }
+{}
+
+/// An inode that counts only a link that it owes goes, where no row has it as its own.
+pub fn dropped_inodes_owe_no_link()
+    ensures { (t : Tables) (p : Parameters) (id : ℕ) (links uses : List ℕ) → Owes t p (id ∷ links) uses → HasNothing t id
+        → Owes (after_change (changes.DeleteInode id) t) p links uses }
+{}
+
+/// A new attribute is the use that was owed, one in place of another of its name is none, and one that is deleted owes it again.
+pub fn attributes_are_uses()
+    ensures put { (t : Tables) (p : Parameters) (a : Attr) (links uses : List ℕ) → Owes t p links (a.name_id ∷ uses) → attr_at t a.inode a.name_id ≡ None
+        → IsTrue (finds_of_attr t a) → Owes (after_change (changes.PutAttr a) t) p links uses }
+    ensures replaced { (t : Tables) (p : Parameters) (old a : Attr) (links uses : List ℕ) → Owes t p links uses → attr_at t a.inode a.name_id ≡ Some old
+        → Owes (after_change (changes.PutAttr a) t) p links uses }
+    ensures delete { (t : Tables) (p : Parameters) (a : Attr) (links uses : List ℕ) → Owes t p links uses → attr_at t a.inode a.name_id ≡ Some a
+        → Owes (after_change (changes.DeleteAttr a.inode a.name_id) t) p links (a.name_id ∷ uses) }
+{}
+
+/// A target owes nothing: it is put for a symbolic link of its length, and deleted.
+pub fn targets_owe_nothing()
+    ensures put { (t : Tables) (p : Parameters) (x : Target) (r : Inode) (links uses : List ℕ) → Owes t p links uses → inode_at t x.inode ≡ Some r
+        → r.kind ≡ kinds.Link → r.size ≡ length x.target → Owes (after_change (changes.PutTarget x) t) p links uses }
+    ensures delete { (t : Tables) (p : Parameters) (id : ℕ) (links uses : List ℕ) → Owes t p links uses → Owes (after_change (changes.DeleteTarget id) t) p links uses }
 {}

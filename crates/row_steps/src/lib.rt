@@ -7,9 +7,10 @@ mod steps;
 mod trees;
 
 pub use debts::{
-    drawn_numbers_are_free, entries_are_links_and_uses, lowered_names_owe_no_use,
-    new_inodes_owe_a_link, other_rows_owe_what_they_count, raised_names_owe_a_use,
-    tables_that_owe_nothing_have_the_premises, valid_tables_owe_nothing,
+    attributes_are_uses, drawn_numbers_are_free, dropped_inodes_owe_no_link,
+    entries_are_links_and_uses, lowered_names_owe_no_use, new_inodes_owe_a_link,
+    other_rows_owe_what_they_count, raised_names_owe_a_use,
+    tables_that_owe_nothing_have_the_premises, targets_owe_nothing, valid_tables_owe_nothing,
 };
 pub use steps::new_files_are_steps;
 pub use trees::{entries_are_entries, name_rows_leave_the_tree, rows_are_nodes};

@@ -1,15 +1,15 @@
-ghost use Rattle.std.specs.Prelude.{◌≡◌, ℕ, ◌+◌, List, false, is_some, IsTrue, Some};
+ghost use Rattle.std.specs.Prelude.{◌≡◌, ℕ, List, ◌∷◌, false, is_some, IsTrue, Some};
 ghost use Rattle.s3_base.specs.declared.node_kind.Kind.TheVariants as kinds;
 ghost use Rattle.plain_tree.specs.Tree.{Node, Tree, with_node, without_node};
 ghost use Rattle.plain_tree.specs.Entries.{add_entry, drop_entry};
 ghost use Rattle.s3_rows.specs.declared.change.Change.TheVariants as changes;
 ghost use Rattle.s3_rows.specs.Rows.{Inode, Name, Content, Parameters};
 ghost use Rattle.s3_rows.specs.Tables.{Tables};
-ghost use Rattle.s3_rows.specs.Batches.{after_change};
+ghost use Rattle.s3_rows.specs.Batches.{after_change, tables_after};
 ghost use Rattle.s3_rows.specs.Selections.{inode_at, name_at, entry_at, bytes_of_name};
 ghost use Rattle.tree_rows.specs.Shapes.{shape_of_node, node_of_row, Represents};
 ghost use Rattle.row_steps.specs.Owed.{Owes, has_entry};
-ghost use Rattle.row_steps.specs.RowChanges.{drawn, touched_row};
+ghost use Rattle.row_steps.specs.RowChanges.{drawn, lowered, touched_row};
 
 /// A row under the number that is drawn is a node more; a row that is deleted, one less.
 pub fn rows_are_nodes()
@@ -19,10 +19,12 @@ pub fn rows_are_nodes()
         → Represents (after_change (changes.DeleteInode id) t) (without_node id whole) }
 {}
 
-/// A name row whose id has none, or one of the same bytes, leaves the tree.
+/// A name row whose id has none, or one of the same bytes, leaves the tree, and so does a name that is used once less.
 pub fn name_rows_leave_the_tree()
-    ensures { (t : Tables) (whole : Tree) (p : Parameters) (row : Name) (links uses : List ℕ) → Owes t p links uses
+    ensures put { (t : Tables) (whole : Tree) (p : Parameters) (row : Name) (links uses : List ℕ) → Owes t p links uses
         → ((old : Name) → name_at t row.id ≡ Some old → old.name ≡ row.name) → Represents t whole → Represents (after_change (changes.PutName row) t) whole }
+    ensures lowered { (t : Tables) (whole : Tree) (p : Parameters) (n : Name) (links uses : List ℕ) → Owes t p links (n.id ∷ uses) → name_at t n.id ≡ Some n
+        → Represents t whole → Represents (tables_after (lowered n) t) whole }
 {}
 
 /// An entry that is put, where its directory has none of the name, is one more of the tree, and one that is deleted one less,

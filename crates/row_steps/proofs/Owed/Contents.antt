@@ -171,7 +171,7 @@ list_any-filter q p rows none =
     list_any_from_list_all p (filter q rows) (list_all-filter q (λ x. not (p x)) rows (list_all_from_list_any p rows none))
 
 -- rows that differ still do when some are left out
-differ-filter : {R : Type 0} (alike : R → R → Bool) (q : R → Bool) (rows : List R) → IsTrue (differ alike rows) → IsTrue (differ alike (filter q rows))
+pub differ-filter : {R : Type 0} (alike : R → R → Bool) (q : R → Bool) (rows : List R) → IsTrue (differ alike rows) → IsTrue (differ alike (filter q rows))
 differ-filter alike q [] unlike = refl
 differ-filter {R} alike q (x ∷ xs) unlike = by_case (differ-filter alike q xs parts.1) (q x)
   where

@@ -13,12 +13,12 @@ use Rattle.s3_rows.specs.Tables.{Tables, by_inode}
 use Rattle.s3_rows.specs.Selections.{inode_at, name_at, block_at, target_at}
 use Rattle.s3_rows.specs.Counts.{listed_inode_count}
 use Rattle.s3_rows.specs.Validity.{any_kind, finds_of_attr, has_inode, is_directory, is_in_file, is_link}
-use Rattle.row_lemmas.proofs.Tests.{equal_from_is_eq, false_from_not, find_passes, find_passes_all, is_eq-nat_cmp, list_all-filter_same, list_all_true, list_all_weaker, list_all_weaker_both}
+use Rattle.row_lemmas.proofs.Tests.{eqb_comm, equal_from_is_eq, false_from_not, find_passes, find_passes_all, is_eq-nat_cmp, list_all-filter_same, list_all_true, list_all_weaker, list_all_weaker_both}
 use Rattle.row_lemmas.proofs.Keyed.Rises.{rises-without}
 use Rattle.row_lemmas.proofs.Keyed.Put.{rises-put, row_at-put, list_all-put, list_all-put_else}
 use Rattle.row_lemmas.proofs.Keyed.Without.{list_all-without, row_at-without_other}
 use Rattle.tree_rows.specs.Premises.{FindsRows, FitsSizes, finds_block, finds_directory_and_name, fits_kind, fits_size}
-use Rattle.row_steps.specs.Owed.{Owes, owes_links, times}
+use Rattle.row_steps.specs.Owed.{HasNothing, Owes, owes_links, times}
 
 -- what is told of the kind and the size of a row, if there is one
 abbrev pub tells : (Kind → ℕ → Bool) → Option Inode → Bool
@@ -280,21 +280,22 @@ Owes-put_inode_less t p r new links uses o there kind size count =
 
 -- ---- a delete
 
-pub Owes-without_inode : (t : Tables) (p : Parameters) (id : ℕ) (links uses now : List ℕ) → Owes t p links uses
-    → NamesOnly t (λ x. not (is_eq (nat_cmp id x))) → ((x : ℕ) → (id == x) ≡ false → times x now ≡ times x links)
-    → Owes (record t { inodes = without by_inode id t.inodes }) p now uses
-Owes-without_inode t p id links uses now o only others =
-    Owes-inodes t p rows (λ x. not (is_eq (nat_cmp id x))) only keeps links uses now o
+pub Owes-without_inode : (t : Tables) (p : Parameters) (id : ℕ) (links uses : List ℕ) → Owes t p (id ∷ links) uses
+    → HasNothing t id → Owes (record t { inodes = without by_inode id t.inodes }) p links uses
+Owes-without_inode t p id links uses o nothing =
+    Owes-inodes t p (without by_inode id t.inodes) (λ x. not (x == id)) only keeps (id ∷ links) uses links o
     (rises-without by_inode id t.inodes o.ordered.inodes)
-    (list_all_weaker_both (λ r. not (has_key by_inode id r)) (owes_links t links) (owes_links t now)
-    (λ r apart owed. ap (λ n. r.refcount == listed_inode_count t r.id + n) (others r.id (sym (is_eq-nat_cmp id r.id) ∙ false_from_not (has_key by_inode id r) apart)) ∙ owed)
-    rows (list_all-filter_same (λ r. not (has_key by_inode id r)) t.inodes) (list_all-without by_inode (owes_links t links) id t.inodes o.inodes))
+    (list_all_weaker_both (λ r. not (has_key by_inode id r)) (owes_links t (id ∷ links)) (owes_links t links)
+    (λ r apart owed. ap (λ n. r.refcount == listed_inode_count t r.id + n)
+    (sym (times_other id r.id links (sym (is_eq-nat_cmp id r.id) ∙ false_from_not (has_key by_inode id r) apart))) ∙ owed)
+    (without by_inode id t.inodes) (list_all-filter_same (λ r. not (has_key by_inode id r)) t.inodes)
+    (list_all-without by_inode (owes_links t (id ∷ links)) id t.inodes o.inodes))
     (list_all-without by_inode (fits_kind t) id t.inodes o.sizes.inodes)
     (list_all-without by_inode (λ (r : Inode). nat_lt r.id p.next_inode) id t.inodes o.numbers)
   where
-    rows : List Inode
-    rows = without by_inode id t.inodes
+    only : NamesOnly t (λ x. not (x == id))
+    only = record { entries = nothing.entries; inode_blocks = nothing.inode_blocks; targets = nothing.targets; attrs = nothing.attrs; slots = nothing.slots }
 
-    keeps : Keeps t (without by_inode id t.inodes) (λ x. not (is_eq (nat_cmp id x)))
+    keeps : Keeps t (without by_inode id t.inodes) (λ x. not (x == id))
     keeps test x good told =
-        ap (tells test) (row_at-without_other by_inode nat_cmp_total id x t.inodes (false_from_not (is_eq (nat_cmp id x)) good)) ∙ told
+        ap (tells test) (row_at-without_other by_inode nat_cmp_total id x t.inodes (is_eq-nat_cmp id x ∙ eqb_comm id x ∙ false_from_not (x == id) good)) ∙ told

@@ -176,7 +176,7 @@ module _ (t : Tables) (p : Parameters) (n : Name) (links uses : List ℕ) (o : O
   below_is : IsTrue (nat_lt n.id p.next_name)
   below_is = find_passes_all (has_key by_name n.id) (λ (r : Name). nat_lt r.id p.next_name) t.names n o.free.names there
 
-  own_bytes : (old : Name) → name_at t n.id ≡ Some old → old.name ≡ n.name
+  pub own_bytes : (old : Name) → name_at t n.id ≡ Some old → old.name ≡ n.name
   own_bytes old is =
       let both : Some old ≡ Some n = sym is ∙ there in
       let same : old ≡ n = cc both in
@@ -202,13 +202,13 @@ Owes-put_name_less t p n count links uses o there less some =
 
 -- a name that counted one use, which it owed, is deleted
 module _ (t : Tables) (p : Parameters) (n : Name) (links uses : List ℕ) (o : Owes t p links (n.id ∷ uses)) (there : name_at t n.id ≡ Some n) (last : n.refcount ≡ 1) where
-  abbrev rows : List Name
+  abbrev pub rows : List Name
   rows = without by_name n.id t.names
 
-  abbrev apart : ℕ → Bool
+  abbrev pub apart : ℕ → Bool
   apart x = not (x == n.id)
 
-  unused : UsesOnly t apart
+  pub unused : UsesOnly t apart
   unused =
       let count = count_is t p n links (n.id ∷ uses) o there in
       let entries : count_by (λ (r : Content). r.name_id == n.id) t.contents ≡ 0 = omega (arith, count, last, times_first n.id uses) in
