@@ -1,5 +1,5 @@
 pub mod Making
-pub mod NewFile
+pub mod NewNodes
 pub mod Owed
 pub mod Place
 pub mod Shape

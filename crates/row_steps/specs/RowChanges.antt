@@ -34,6 +34,10 @@ new_file_row id mode uid gid now = record {
   locked = false;
 }
 
+-- and of an empty directory
+abbrev pub new_directory_row : ℕ → ℕ → ℕ → ℕ → ℕ → Inode
+new_directory_row id mode uid gid now = record (new_file_row id mode uid gid now) { kind = kinds.Directory }
+
 -- a name that is used once less: its count is one less, or its row goes
 abbrev pub lowered : Name → List Change
 lowered n = if n.refcount == 1 then changes.DeleteName n.id ∷ [] else changes.PutName (record n { refcount = n.refcount - 1 }) ∷ []

@@ -12,7 +12,7 @@ ghost use Rattle.s3_rows.specs.Validity.{IsValid, HasUniqueNames};
 ghost use Rattle.tree_rows.specs.Shapes.{Represents};
 ghost use Rattle.ref_counts.specs.Names.{Raised, raised};
 ghost use Rattle.ref_counts.specs.Plans.{IsStep};
-ghost use Rattle.row_steps.specs.RowChanges.{creation, new_file_row, with_drawn};
+ghost use Rattle.row_steps.specs.RowChanges.{creation, new_directory_row, new_file_row, with_drawn};
 
 /// Where no check of a Create fails, and its name may be used once more, its batch leaves valid tables that represent the tree
 /// with the new file.
@@ -21,4 +21,12 @@ pub fn new_files_are_steps()
         → IsValid t → HasUniqueNames t → IsWellFormed whole → Represents t whole → t.params ≡ Some p → inode_at t parent ≡ Some directory
         → first_failure (checks whole pass (ops.Create parent name mode uid gid)) ≡ None → raised (with_drawn p t) name ≡ Some more
         → IsStep t (tables_after (creation p directory more (new_file_row p.next_inode mode uid gid now) now) t) (effect whole pass (ops.Create parent name mode uid gid) now) 1 }
+{}
+
+/// And so it is where no check of a Mkdir fails.
+pub fn new_directories_are_steps()
+    ensures { (t : Tables) (whole : Tree) (p : Parameters) (directory : Inode) (more : Raised) (pass parent mode uid gid now : ℕ) (name : List ℕ)
+        → IsValid t → HasUniqueNames t → IsWellFormed whole → Represents t whole → t.params ≡ Some p → inode_at t parent ≡ Some directory
+        → first_failure (checks whole pass (ops.Mkdir parent name mode uid gid)) ≡ None → raised (with_drawn p t) name ≡ Some more
+        → IsStep t (tables_after (creation p directory more (new_directory_row p.next_inode mode uid gid now) now) t) (effect whole pass (ops.Mkdir parent name mode uid gid) now) 1 }
 {}
