@@ -1,3 +1,5 @@
+pub mod Dropping
+pub mod Entering
 pub mod Making
 pub mod NewNodes
 pub mod Owed

@@ -3,7 +3,7 @@ use Rattle.std.specs.Prelude.{ℕ, ◌+◌, ◌-◌, ◌==◌, List, [], ◌∷�
 use Rattle.s3_base.specs.declared.node_kind.Kind.TheVariants as kinds
 use Rattle.s3_rows.specs.declared.change.Change.{Change}
 use Rattle.s3_rows.specs.declared.change.Change.TheVariants as changes
-use Rattle.s3_rows.specs.Rows.{Inode, Name, Parameters}
+use Rattle.s3_rows.specs.Rows.{Inode, Name, Content, Parameters}
 use Rattle.s3_rows.specs.Tables.{Tables}
 use Rattle.s3_rows.specs.Batches.{after_change}
 use Rattle.ref_counts.specs.Names.{Raised}
@@ -47,3 +47,12 @@ abbrev pub creation : Parameters → Inode → Raised → Inode → ℕ → List
 creation p directory more new now =
     changes.SetParams (drawn p) ∷ more.changes
     ++ changes.PutContent (record { parent = directory.id; name_id = more.id; inode = new.id }) ∷ changes.PutInode new ∷ changes.PutInode (touched_row now directory) ∷ []
+
+-- an entry that goes is deleted, its directory touched, and its name used once less
+abbrev pub dropping : Inode → Content → Name → ℕ → List Change
+dropping directory c n now = changes.DeleteContent c.parent c.name_id ∷ changes.PutInode (touched_row now directory) ∷ lowered n
+
+-- an entry that comes: its name is used once more, it is put, and its directory touched
+abbrev pub entering : Inode → Raised → ℕ → ℕ → List Change
+entering directory more inode now =
+    more.changes ++ changes.PutContent (record { parent = directory.id; name_id = more.id; inode = inode }) ∷ changes.PutInode (touched_row now directory) ∷ []

@@ -1,0 +1,55 @@
+-- An entry that goes: it is deleted, its directory is touched, and its name is used once less.
+use Rattle.std.proofs.Common.{◌≡◌, ℕ, List, [], ◌∷◌, false, Option, Some, refl, sym, ap, ◌∙◌, subst}
+use Rattle.std.specs.Prelude.{◌==◌, is_some, option_map, unwrap_or}
+use Rattle.s3_base.specs.Numbers.{root}
+use Rattle.s3_base.specs.declared.node_kind.Kind.TheVariants as kinds
+use Rattle.plain_tree.specs.Tree.{Tree}
+use Rattle.plain_tree.specs.Entries.{drop_entry}
+use Rattle.s3_rows.specs.Rows.{Inode, Name, Content, Parameters}
+use Rattle.s3_rows.specs.Keyed.{has_key, put, without}
+use Rattle.s3_rows.specs.Tables.{Tables, by_entry, by_inode, by_name}
+use Rattle.s3_rows.specs.Batches.{tables_after}
+use Rattle.s3_rows.specs.Selections.{inode_at, name_at, entry_at}
+use Rattle.s3_rows.specs.Validity.{HasUniqueNames}
+use Rattle.row_lemmas.proofs.Tests.{find_passes}
+use Rattle.tree_rows.specs.Shapes.{Represents}
+use Rattle.row_steps.specs.Owed.{Owes}
+use Rattle.row_steps.specs.RowChanges.{dropping, lowered, touched_row}
+use Rattle.row_steps.proofs.Owed.Contents.{Owes-without_content}
+use Rattle.row_steps.proofs.Owed.Inodes.{Owes-put_inode_same, one_number}
+use Rattle.row_steps.proofs.Owed.Lowered.{IsLower, IsLower-lowered}
+use Rattle.row_steps.proofs.Shape.Deletes.{Represents-without_content}
+
+module _ (t : Tables) (p : Parameters) (d : Inode) (c : Content) (n : Name) (now : ℕ) (links uses : List ℕ) (o : Owes t p links uses)
+    (there : inode_at t d.id ≡ Some d) (parent : d.id ≡ c.parent) (entry : entry_at t c.parent c.name_id ≡ Some c) (named : name_at t c.name_id ≡ Some n)
+    (not_root : (c.inode == root) ≡ false) where
+  abbrev touched : Tables
+  touched = record t { contents = without by_entry (c.parent, c.name_id) t.contents; inodes = put by_inode (touched_row now d) t.inodes }
+
+  id_is : c.name_id ≡ n.id
+  id_is = one_number c.name_id n.id (find_passes (has_key by_name c.name_id) t.names n named)
+
+  owes_both : Owes touched p (c.inode ∷ links) (n.id ∷ uses)
+  owes_both =
+      subst (λ id. Owes touched p (c.inode ∷ links) (id ∷ uses)) id_is
+      (Owes-put_inode_same (record t { contents = without by_entry (c.parent, c.name_id) t.contents }) p d (touched_row now d) (c.inode ∷ links) (c.name_id ∷ uses)
+      (Owes-without_content t p c links uses o entry not_root) there refl refl refl)
+
+  lower : IsLower touched p (c.inode ∷ links) uses (lowered n)
+  lower = IsLower-lowered touched p n (c.inode ∷ links) uses owes_both (ap (name_at t) (sym id_is) ∙ named)
+
+  -- the link of the entry is owed
+  pub Owes-dropping : Owes (tables_after (dropping d c n now) t) p (c.inode ∷ links) uses
+  Owes-dropping = subst (λ (u : Tables). Owes u p (c.inode ∷ links) uses) (sym lower.after) lower.owes
+
+  -- and the tree has an entry less
+  pub Represents-dropping : (whole : Tree) → d.kind ≡ kinds.Directory → Represents t whole → Represents (tables_after (dropping d c n now) t) (drop_entry d.id n.name now whole)
+  Represents-dropping whole kind same =
+      let deleted : Represents touched (drop_entry d.id (unwrap_or (option_map (λ (r : Name). r.name) (name_at t c.name_id)) []) now whole) =
+      Represents-without_content t c o.ordered.contents o.unlike entry (ap is_some named) whole d now o.ordered.inodes same parent there kind in
+      let text : Represents touched (drop_entry d.id n.name now whole) =
+      subst (λ (found : Option Name). Represents touched (drop_entry d.id (unwrap_or (option_map (λ (r : Name). r.name) found) []) now whole)) named deleted in
+      subst (λ (u : Tables). Represents u (drop_entry d.id n.name now whole)) (sym lower.after) (lower.represents (drop_entry d.id n.name now whole) text)
+
+  pub HasUniqueNames-dropping : HasUniqueNames t → HasUniqueNames (tables_after (dropping d c n now) t)
+  HasUniqueNames-dropping unique = subst (λ (u : Tables). HasUniqueNames u) (sym lower.after) (lower.unique unique)

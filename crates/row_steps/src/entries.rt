@@ -1,0 +1,47 @@
+ghost use Rattle.std.specs.Prelude.{◌≡◌, ℕ, ◌==◌, List, ◌∷◌, false, nat_lt, IsTrue, Some};
+ghost use Rattle.std.specs.List.{list_all};
+ghost use Rattle.s3_base.specs.Numbers.{root};
+ghost use Rattle.s3_base.specs.declared.node_kind.Kind.TheVariants as kinds;
+ghost use Rattle.plain_tree.specs.Tree.{Tree};
+ghost use Rattle.plain_tree.specs.Entries.{add_entry, drop_entry};
+ghost use Rattle.s3_rows.specs.Rows.{Inode, Name, Content, Parameters};
+ghost use Rattle.s3_rows.specs.Tables.{Tables};
+ghost use Rattle.s3_rows.specs.Batches.{tables_after};
+ghost use Rattle.s3_rows.specs.Selections.{inode_at, name_at, entry_at};
+ghost use Rattle.s3_rows.specs.Validity.{HasUniqueNames};
+ghost use Rattle.tree_rows.specs.Shapes.{Represents};
+ghost use Rattle.ref_counts.specs.Names.{Raised, raised};
+ghost use Rattle.row_steps.specs.Owed.{Owes, has_entry};
+ghost use Rattle.row_steps.specs.RowChanges.{dropping, entering};
+
+/// An entry that goes, with the use of its name, owes the link of its inode, and is one less of the tree.
+pub fn entries_that_go_owe_a_link()
+    ensures owes { (t : Tables) (p : Parameters) (directory : Inode) (c : Content) (n : Name) (now : ℕ) (links uses : List ℕ) → Owes t p links uses
+        → inode_at t directory.id ≡ Some directory → directory.id ≡ c.parent → entry_at t c.parent c.name_id ≡ Some c → name_at t c.name_id ≡ Some n
+        → (c.inode == root) ≡ false → Owes (tables_after (dropping directory c n now) t) p (c.inode ∷ links) uses }
+    ensures represents { (t : Tables) (p : Parameters) (directory : Inode) (c : Content) (n : Name) (now : ℕ) (links uses : List ℕ) → Owes t p links uses
+        → inode_at t directory.id ≡ Some directory → directory.id ≡ c.parent → entry_at t c.parent c.name_id ≡ Some c → name_at t c.name_id ≡ Some n
+        → (c.inode == root) ≡ false → (whole : Tree) → directory.kind ≡ kinds.Directory → Represents t whole
+        → Represents (tables_after (dropping directory c n now) t) (drop_entry directory.id n.name now whole) }
+    ensures unique { (t : Tables) (p : Parameters) (directory : Inode) (c : Content) (n : Name) (now : ℕ) (links uses : List ℕ) → Owes t p links uses
+        → inode_at t directory.id ≡ Some directory → directory.id ≡ c.parent → entry_at t c.parent c.name_id ≡ Some c → name_at t c.name_id ≡ Some n
+        → (c.inode == root) ≡ false → HasUniqueNames t → HasUniqueNames (tables_after (dropping directory c n now) t) }
+{}
+
+/// An entry that comes, with the use of its name, is the link of its inode that was owed, and one more of the tree.
+pub fn entries_that_come_are_owed_links()
+    ensures owes { (t : Tables) (p : Parameters) (directory : Inode) (more : Raised) (name : List ℕ) (inode now : ℕ) (links uses : List ℕ)
+        → Owes t p (inode ∷ links) uses → IsTrue (list_all (λ id. nat_lt id p.next_name) uses) → raised t name ≡ Some more
+        → inode_at t directory.id ≡ Some directory → directory.kind ≡ kinds.Directory → has_entry t directory.id name ≡ false → (inode == root) ≡ false
+        → IsTrue (nat_lt inode p.next_inode)
+        → (next : ℕ) × Owes (tables_after (entering directory more inode now) t) (record p { next_name = next }) links uses }
+    ensures represents { (t : Tables) (p : Parameters) (directory : Inode) (more : Raised) (name : List ℕ) (inode now : ℕ) (links uses : List ℕ)
+        → Owes t p (inode ∷ links) uses → IsTrue (list_all (λ id. nat_lt id p.next_name) uses) → raised t name ≡ Some more
+        → inode_at t directory.id ≡ Some directory → directory.kind ≡ kinds.Directory → has_entry t directory.id name ≡ false → (inode == root) ≡ false
+        → IsTrue (nat_lt inode p.next_inode) → (whole : Tree) → Represents t whole
+        → Represents (tables_after (entering directory more inode now) t) (add_entry directory.id name inode now whole) }
+    ensures unique { (t : Tables) (p : Parameters) (directory : Inode) (more : Raised) (name : List ℕ) (inode now : ℕ) (links uses : List ℕ)
+        → Owes t p (inode ∷ links) uses → IsTrue (list_all (λ id. nat_lt id p.next_name) uses) → raised t name ≡ Some more
+        → inode_at t directory.id ≡ Some directory → directory.kind ≡ kinds.Directory → has_entry t directory.id name ≡ false → (inode == root) ≡ false
+        → IsTrue (nat_lt inode p.next_inode) → HasUniqueNames t → HasUniqueNames (tables_after (entering directory more inode now) t) }
+{}
