@@ -40,13 +40,13 @@ module _ (t : Tables) (p : Parameters) (d : Inode) (more : Raised) (name : List 
   abbrev pub raise : IsRaise t p (inode ∷ links) uses more name
   raise = IsRaise-raised t p (inode ∷ links) uses more name o below used
 
-  abbrev named : Tables
+  abbrev pub named : Tables
   named = record t { params = Some (record p { next_name = raise.next }); names = put by_name raise.row t.names }
 
-  abbrev entry : Content
+  abbrev pub entry : Content
   entry = record { parent = d.id; name_id = raise.row.id; inode = inode }
 
-  abbrev after : Tables
+  abbrev pub after : Tables
   after = record named { contents = put by_entry entry t.contents; inodes = put by_inode (touched_row now d) t.inodes }
 
   row_there : name_at named raise.row.id ≡ Some raise.row
@@ -55,7 +55,7 @@ module _ (t : Tables) (p : Parameters) (d : Inode) (more : Raised) (name : List 
   bytes_are : bytes_of_name named raise.row.id ≡ name
   bytes_are = ap (λ (found : Option Name). unwrap_or (option_map (λ (n : Name). n.name) found) []) row_there ∙ raise.bytes
 
-  free_after : list_any (is_entry named d.id (bytes_of_name named raise.row.id)) t.contents ≡ false
+  pub free_after : list_any (is_entry named d.id (bytes_of_name named raise.row.id)) t.contents ≡ false
   free_after =
       false_from_not (list_any (is_entry named d.id (bytes_of_name named raise.row.id)) t.contents)
       (list_any_from_list_all (is_entry named d.id (bytes_of_name named raise.row.id)) t.contents
@@ -74,7 +74,7 @@ module _ (t : Tables) (p : Parameters) (d : Inode) (more : Raised) (name : List 
   rest : ℕ → List Change
   rest id = changes.PutContent (record { parent = d.id; name_id = id; inode = inode }) ∷ changes.PutInode (touched_row now d) ∷ []
 
-  after_is : tables_after (entering d more inode now) t ≡ after
+  pub after_is : tables_after (entering d more inode now) t ≡ after
   unfolding rest
   after_is =
       sym (tables_after-tables_after more.changes (rest more.id) t) ∙ ap (tables_after (rest more.id)) raise.after
