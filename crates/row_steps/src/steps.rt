@@ -1,4 +1,5 @@
-ghost use Rattle.std.specs.Prelude.{◌≡◌, ℕ, List, None, Some};
+ghost use Rattle.std.specs.Prelude.{◌≡◌, ℕ, List, [], None, Some};
+ghost use Rattle.op_frames.specs.declared.operation.Op.{Op};
 ghost use Rattle.op_frames.specs.declared.operation.Op.TheVariants as ops;
 ghost use Rattle.plain_tree.specs.Tree.{Tree};
 ghost use Rattle.plain_tree.specs.Checks.{first_failure};
@@ -12,7 +13,14 @@ ghost use Rattle.s3_rows.specs.Validity.{IsValid, HasUniqueNames};
 ghost use Rattle.tree_rows.specs.Shapes.{Represents};
 ghost use Rattle.ref_counts.specs.Names.{Raised, raised};
 ghost use Rattle.ref_counts.specs.Plans.{IsStep};
+ghost use Rattle.row_steps.specs.Owed.{Owes};
 ghost use Rattle.row_steps.specs.RowChanges.{creation, new_directory_row, new_file_row, with_drawn};
+
+/// Where no check of an operation on a well-formed tree fails, tables that owe nothing and represent the tree after it are valid.
+pub fn tables_after_operations_are_valid()
+    ensures { (t : Tables) (whole : Tree) (p : Parameters) (pass now : ℕ) (op : Op) → IsWellFormed whole → first_failure (checks whole pass op) ≡ None
+        → Owes t p [] [] → Represents t (effect whole pass op now) → IsValid t }
+{}
 
 /// Where no check of a Create fails, and its name may be used once more, its batch leaves valid tables that represent the tree
 /// with the new file.

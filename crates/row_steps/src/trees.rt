@@ -1,6 +1,6 @@
 ghost use Rattle.std.specs.Prelude.{◌≡◌, ℕ, List, ◌∷◌, false, is_some, IsTrue, Some};
 ghost use Rattle.s3_base.specs.declared.node_kind.Kind.TheVariants as kinds;
-ghost use Rattle.plain_tree.specs.Tree.{Node, Tree, with_node, without_node};
+ghost use Rattle.plain_tree.specs.Tree.{Node, Tree, change_node, with_node, without_node};
 ghost use Rattle.plain_tree.specs.Entries.{add_entry, drop_entry};
 ghost use Rattle.s3_rows.specs.declared.change.Change.TheVariants as changes;
 ghost use Rattle.s3_rows.specs.Rows.{Inode, Name, Content, Parameters};
@@ -11,12 +11,16 @@ ghost use Rattle.tree_rows.specs.Shapes.{shape_of_node, node_of_row, Represents}
 ghost use Rattle.row_steps.specs.Owed.{Owes, has_entry};
 ghost use Rattle.row_steps.specs.RowChanges.{drawn, lowered, touched_row};
 
-/// A row under the number that is drawn is a node more; a row that is deleted, one less.
+/// A row under the number that is drawn is a node more; a row that is deleted, one less; and a row in place of another is the
+/// node that a change makes of its shape.
 pub fn rows_are_nodes()
     ensures put { (t : Tables) (whole : Tree) (p : Parameters) (new : Inode) (node : Node) → Represents t whole → t.params ≡ Some p → new.id ≡ p.next_inode
         → shape_of_node node ≡ node_of_row t new → Represents (after_change (changes.PutInode new) (after_change (changes.SetParams (drawn p)) t)) (with_node node whole) }
     ensures delete { (t : Tables) (whole : Tree) (p : Parameters) (id : ℕ) (links uses : List ℕ) → Owes t p links uses → Represents t whole
         → Represents (after_change (changes.DeleteInode id) t) (without_node id whole) }
+    ensures replaced { (t : Tables) (whole : Tree) (p : Parameters) (r new : Inode) (f : Node → Node) (links uses : List ℕ) → Owes t p links uses
+        → Represents t whole → inode_at t new.id ≡ Some r → ((node : Node) → shape_of_node node ≡ node_of_row t r → shape_of_node (f node) ≡ node_of_row t new)
+        → Represents (after_change (changes.PutInode new) t) (change_node new.id f whole) }
 {}
 
 /// A name row whose id has none, or one of the same bytes, leaves the tree, and so does a name that is used once less.
