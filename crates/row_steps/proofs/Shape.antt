@@ -1,4 +1,5 @@
 -- What each change of rows makes of the tree that tables represent.
+pub mod Absent
 pub mod Deletes
 pub mod Entries
 pub mod Names

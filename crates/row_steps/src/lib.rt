@@ -17,4 +17,6 @@ pub use entries::{entries_that_come_are_owed_links, entries_that_go_owe_a_link};
 pub use steps::{
     new_directories_are_steps, new_files_are_steps, tables_after_operations_are_valid,
 };
-pub use trees::{entries_are_entries, name_rows_leave_the_tree, rows_are_nodes};
+pub use trees::{
+    entries_are_entries, name_rows_leave_the_tree, rows_are_nodes, rows_of_no_node_leave_the_tree,
+};

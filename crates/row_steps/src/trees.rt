@@ -1,4 +1,4 @@
-ghost use Rattle.std.specs.Prelude.{◌≡◌, ℕ, List, ◌∷◌, false, is_some, IsTrue, Some};
+ghost use Rattle.std.specs.Prelude.{◌≡◌, ℕ, List, ◌∷◌, false, is_some, IsTrue, None, Some};
 ghost use Rattle.s3_base.specs.declared.node_kind.Kind.TheVariants as kinds;
 ghost use Rattle.plain_tree.specs.Tree.{Node, Tree, change_node, with_node, without_node};
 ghost use Rattle.plain_tree.specs.Entries.{add_entry, drop_entry};
@@ -44,4 +44,12 @@ pub fn entries_are_entries()
         → IsTrue (is_some (name_at t c.name_id)) → entry_at t c.parent c.name_id ≡ Some c
         → Represents (after_change (changes.PutInode (touched_row now directory)) (after_change (changes.DeleteContent c.parent c.name_id) t))
         (drop_entry directory.id (bytes_of_name t c.name_id) now whole) }
+{}
+
+/// Attributes and targets of a number that has no row leave the tree.
+pub fn rows_of_no_node_leave_the_tree()
+    ensures attrs { (t : Tables) (whole : Tree) (id name_id : ℕ) → inode_at t id ≡ None → Represents t whole
+        → Represents (after_change (changes.DeleteAttr id name_id) t) whole }
+    ensures targets { (t : Tables) (whole : Tree) (id : ℕ) → inode_at t id ≡ None → Represents t whole
+        → Represents (after_change (changes.DeleteTarget id) t) whole }
 {}

@@ -1,0 +1,85 @@
+-- Attributes and targets of numbers that have no row leave the tree.
+use Rattle.std.proofs.Common.{◌≡◌, ℕ, List, [], ◌∷◌, map, Bool, true, false, cond, Option, None, refl, sym, ap, ◌∙◌}
+use Rattle.std.specs.Prelude.{IsTrue, not, ◌==◌, filter, option_map, unwrap_or}
+use Rattle.std.specs.List.{list_all, filter_map}
+use Rattle.std.specs.Cmp.{nat_cmp_total}
+use Rattle.std.proofs.lemmas.Bool.{and_parts}
+use Rattle.s3_base.specs.declared.node_kind.Kind.TheVariants as kinds
+use Rattle.plain_tree.specs.Tree.{Tree}
+use Rattle.s3_rows.specs.declared.lists.NamedAttr.{NamedAttr}
+use Rattle.s3_rows.specs.Rows.{Inode, Target, Attr}
+use Rattle.s3_rows.specs.Keyed.{has_key, sorted_by, without}
+use Rattle.s3_rows.specs.Tables.{Tables, by_attr, by_inode, by_target}
+use Rattle.s3_rows.specs.Selections.{inode_at, target_at, with_attr_name, by_attr_name}
+use Rattle.row_lemmas.proofs.Tests.{eqb_comm, false_from_not, is_eq-nat_cmp, list_all_from_find, list_all_weaker}
+use Rattle.row_lemmas.proofs.Keyed.Without.{row_at-without_other}
+use Rattle.tree_rows.specs.Shapes.{Directory, Regular, Link, NodeShape, attributes_in, content_of_row, entries_in, node_of_row, shape_of_tables, target_in, Represents}
+use Rattle.row_steps.proofs.Owed.Contents.{pair_parts}
+use Rattle.row_steps.proofs.Shape.Rows.{row_shape}
+
+-- what a second filter leaves is what it leaves alone, where it passes the first
+filter-filter_weaker : {R : Type 0} (p q : R → Bool) → ((r : R) → q r ≡ true → p r ≡ true) → (rows : List R) → filter q (filter p rows) ≡ filter q rows
+filter-filter_weaker p q follows [] = refl
+filter-filter_weaker {R} p q follows (r ∷ rs) = by_case (filter-filter_weaker p q follows rs) (p r) refl (q r) refl
+  where
+    by_case : filter q (filter p rs) ≡ filter q rs → (b : Bool) → p r ≡ b → (c : Bool) → q r ≡ c
+        → filter q (cond b (r ∷ filter p rs) (filter p rs)) ≡ cond c (r ∷ filter q rs) (filter q rs)
+    by_case others true passes true own = ap (λ d. cond d (r ∷ filter q (filter p rs)) (filter q (filter p rs))) own ∙ ap (λ ys. r ∷ ys) others
+    by_case others true passes false own = ap (λ d. cond d (r ∷ filter q (filter p rs)) (filter q (filter p rs))) own ∙ others
+    by_case others false passes true own =
+        let clash : false ≡ true = sym passes ∙ follows r own in
+        absurd (cc clash)
+    by_case others false passes false own = others
+
+-- tables in which each inode with a row has its node are the same tree
+rows_agree : (t u : Tables) (id : ℕ) → ((x : Inode) → (x.id == id) ≡ false → node_of_row u x ≡ node_of_row t x) → (rows : List Inode)
+    → IsTrue (list_all (λ (x : Inode). not (x.id == id)) rows) → map (row_shape u) rows ≡ map (row_shape t) rows
+rows_agree t u id same [] all = refl
+rows_agree t u id same (x ∷ xs) all =
+    let parts = and_parts (not (x.id == id)) (list_all (λ (y : Inode). not (y.id == id)) xs) all in
+    λ i. (x.id, same x (false_from_not (x.id == id) parts.0) i) ∷ rows_agree t u id same xs parts.1 i
+
+no_row : (t : Tables) (id : ℕ) → inode_at t id ≡ None → IsTrue (list_all (λ (x : Inode). not (x.id == id)) t.inodes)
+no_row t id none =
+    list_all_weaker (λ x. not (has_key by_inode id x)) (λ (x : Inode). not (x.id == id))
+    (λ x apart. ap not (eqb_comm x.id id ∙ sym (is_eq-nat_cmp id x.id)) ∙ apart) t.inodes (list_all_from_find (has_key by_inode id) t.inodes none)
+
+pub Represents-without_attr_absent : (t : Tables) (whole : Tree) (id name_id : ℕ) → inode_at t id ≡ None → Represents t whole
+    → Represents (record t { attrs = without by_attr (id, name_id) t.attrs }) whole
+Represents-without_attr_absent t whole id name_id none same =
+    ap (λ (es : List (ℕ × NodeShape)). record (shape_of_tables t) { nodes = es })
+    (rows_agree t (record t { attrs = without by_attr (id, name_id) t.attrs }) id node t.inodes (no_row t id none)) ∙ same
+  where
+    attributes : (x : ℕ) → (x == id) ≡ false → attributes_in (record t { attrs = without by_attr (id, name_id) t.attrs }) x ≡ attributes_in t x
+    attributes x apart =
+        ap (λ (rows : List Attr). map (λ (a : NamedAttr). (a.name, a.row.value)) (sorted_by by_attr_name (filter_map (with_attr_name t) rows)))
+        (filter-filter_weaker (λ r. not (has_key by_attr (id, name_id) r)) (λ (r : Attr). r.inode == x) other t.attrs)
+      where
+        other : (r : Attr) → (r.inode == x) ≡ true → not (has_key by_attr (id, name_id) r) ≡ true
+        other r here = by_case (has_key by_attr (id, name_id) r) refl
+          where
+            by_case : (b : Bool) → has_key by_attr (id, name_id) r ≡ b → not b ≡ true
+            by_case true is =
+                let clash : true ≡ false =
+                sym here ∙ eqb_comm r.inode x ∙ ap (λ n. x == n) (sym (pair_parts (id, name_id) (r.inode, r.name_id) is).0) ∙ apart in
+                absurd (cc clash)
+            by_case false is = refl
+
+    node : (x : Inode) → (x.id == id) ≡ false → node_of_row (record t { attrs = without by_attr (id, name_id) t.attrs }) x ≡ node_of_row t x
+    node x apart = λ i. record (node_of_row t x) { attributes = attributes x.id apart i }
+
+pub Represents-without_target_absent : (t : Tables) (whole : Tree) (id : ℕ) → inode_at t id ≡ None → Represents t whole
+    → Represents (record t { targets = without by_target id t.targets }) whole
+Represents-without_target_absent t whole id none same =
+    ap (λ (es : List (ℕ × NodeShape)). record (shape_of_tables t) { nodes = es })
+    (rows_agree t (record t { targets = without by_target id t.targets }) id node t.inodes (no_row t id none)) ∙ same
+  where
+    node : (x : Inode) → (x.id == id) ≡ false → node_of_row (record t { targets = without by_target id t.targets }) x ≡ node_of_row t x
+    node x apart =
+        let found : target_at (record t { targets = without by_target id t.targets }) x.id ≡ target_at t x.id =
+        row_at-without_other by_target nat_cmp_total id x.id t.targets (is_eq-nat_cmp id x.id ∙ eqb_comm id x.id ∙ apart) in
+        let target : target_in (record t { targets = without by_target id t.targets }) x.id ≡ target_in t x.id =
+        ap (λ (y : Option Target). unwrap_or (option_map (λ (r : Target). r.target) y) []) found in
+        let content : content_of_row (record t { targets = without by_target id t.targets }) x ≡ content_of_row t x =
+        (λ i. elim x.kind [ kinds.Directory ↦ Directory (entries_in t x.id) | kinds.Regular ↦ Regular x.size | kinds.Link ↦ Link (target i) ]) in
+        λ i. record (node_of_row t x) { content = content i }
