@@ -1,23 +1,25 @@
--- An entry that goes: it is deleted, its directory is touched, and its name is used once less.
-use Rattle.std.proofs.Common.{◌≡◌, ℕ, List, [], ◌∷◌, false, Option, Some, refl, sym, ap, ◌∙◌, subst}
+-- An entry that goes: it is deleted, its directory is touched, and its name is used once less. An attribute alike.
+use Rattle.std.proofs.Common.{◌≡◌, ℕ, List, [], ◌∷◌, false, Option, None, Some, refl, sym, ap, ◌∙◌, subst}
 use Rattle.std.specs.Prelude.{◌==◌, is_some, option_map, unwrap_or}
 use Rattle.s3_base.specs.Numbers.{root}
 use Rattle.s3_base.specs.declared.node_kind.Kind.TheVariants as kinds
 use Rattle.plain_tree.specs.Tree.{Tree}
 use Rattle.plain_tree.specs.Entries.{drop_entry}
-use Rattle.s3_rows.specs.Rows.{Inode, Name, Content, Parameters}
+use Rattle.s3_rows.specs.Rows.{Inode, Name, Content, Attr, Parameters}
 use Rattle.s3_rows.specs.Keyed.{has_key, put, without}
-use Rattle.s3_rows.specs.Tables.{Tables, by_entry, by_inode, by_name}
+use Rattle.s3_rows.specs.Tables.{Tables, by_attr, by_entry, by_inode, by_name}
 use Rattle.s3_rows.specs.Batches.{tables_after}
-use Rattle.s3_rows.specs.Selections.{inode_at, name_at, entry_at}
+use Rattle.s3_rows.specs.Selections.{inode_at, name_at, entry_at, attr_at}
 use Rattle.s3_rows.specs.Validity.{HasUniqueNames}
 use Rattle.row_lemmas.proofs.Tests.{find_passes}
 use Rattle.tree_rows.specs.Shapes.{Represents}
 use Rattle.row_steps.specs.Owed.{Owes}
-use Rattle.row_steps.specs.RowChanges.{dropping, lowered, touched_row}
+use Rattle.row_steps.specs.RowChanges.{dropping, dropping_attr, lowered, touched_row}
+use Rattle.row_steps.proofs.Owed.Attrs.{Owes-without_attr}
 use Rattle.row_steps.proofs.Owed.Contents.{Owes-without_content}
 use Rattle.row_steps.proofs.Owed.Inodes.{Owes-put_inode_same, one_number}
 use Rattle.row_steps.proofs.Owed.Lowered.{IsLower, IsLower-lowered}
+use Rattle.row_steps.proofs.Shape.Absent.{Represents-without_attr_absent}
 use Rattle.row_steps.proofs.Shape.Deletes.{Represents-without_content}
 
 module _ (t : Tables) (p : Parameters) (d : Inode) (c : Content) (n : Name) (now : ℕ) (links uses : List ℕ) (o : Owes t p links uses)
@@ -53,3 +55,30 @@ module _ (t : Tables) (p : Parameters) (d : Inode) (c : Content) (n : Name) (now
 
   pub HasUniqueNames-dropping : HasUniqueNames t → HasUniqueNames (tables_after (dropping d c n now) t)
   HasUniqueNames-dropping unique = subst (λ (u : Tables). HasUniqueNames u) (sym lower.after) (lower.unique unique)
+
+-- ---- an attribute
+
+module _ (t : Tables) (p : Parameters) (a : Attr) (n : Name) (links uses : List ℕ) (o : Owes t p links uses)
+    (there : attr_at t a.inode a.name_id ≡ Some a) (named : name_at t a.name_id ≡ Some n) where
+  abbrev without_attr : Tables
+  without_attr = record t { attrs = without by_attr (a.inode, a.name_id) t.attrs }
+
+  attr_id_is : a.name_id ≡ n.id
+  attr_id_is = one_number a.name_id n.id (find_passes (has_key by_name a.name_id) t.names n named)
+
+  lower_attr : IsLower without_attr p links uses (lowered n)
+  lower_attr =
+      IsLower-lowered without_attr p n links uses
+      (subst (λ id. Owes without_attr p links (id ∷ uses)) attr_id_is (Owes-without_attr t p a links uses o there)) (ap (name_at t) (sym attr_id_is) ∙ named)
+
+  pub Owes-dropping_attr : Owes (tables_after (dropping_attr a n) t) p links uses
+  Owes-dropping_attr = subst (λ (u : Tables). Owes u p links uses) (sym lower_attr.after) lower_attr.owes
+
+  -- where the inode is gone already
+  pub Represents-dropping_attr : (whole : Tree) → inode_at t a.inode ≡ None → Represents t whole → Represents (tables_after (dropping_attr a n) t) whole
+  Represents-dropping_attr whole none same =
+      subst (λ (u : Tables). Represents u whole) (sym lower_attr.after)
+      (lower_attr.represents whole (Represents-without_attr_absent t whole a.inode a.name_id none same))
+
+  pub HasUniqueNames-dropping_attr : HasUniqueNames t → HasUniqueNames (tables_after (dropping_attr a n) t)
+  HasUniqueNames-dropping_attr unique = subst (λ (u : Tables). HasUniqueNames u) (sym lower_attr.after) (lower_attr.unique unique)

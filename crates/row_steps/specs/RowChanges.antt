@@ -3,7 +3,7 @@ use Rattle.std.specs.Prelude.{ℕ, ◌+◌, ◌-◌, ◌==◌, List, [], ◌∷�
 use Rattle.s3_base.specs.declared.node_kind.Kind.TheVariants as kinds
 use Rattle.s3_rows.specs.declared.change.Change.{Change}
 use Rattle.s3_rows.specs.declared.change.Change.TheVariants as changes
-use Rattle.s3_rows.specs.Rows.{Inode, Name, Content, Parameters}
+use Rattle.s3_rows.specs.Rows.{Inode, Name, Content, Attr, Parameters}
 use Rattle.s3_rows.specs.Tables.{Tables}
 use Rattle.s3_rows.specs.Batches.{after_change}
 use Rattle.ref_counts.specs.Names.{Raised}
@@ -56,3 +56,7 @@ dropping directory c n now = changes.DeleteContent c.parent c.name_id ∷ change
 abbrev pub entering : Inode → Raised → ℕ → ℕ → List Change
 entering directory more inode now =
     more.changes ++ changes.PutContent (record { parent = directory.id; name_id = more.id; inode = inode }) ∷ changes.PutInode (touched_row now directory) ∷ []
+
+-- an attribute that goes is deleted, and its name used once less
+abbrev pub dropping_attr : Attr → Name → List Change
+dropping_attr a n = changes.DeleteAttr a.inode a.name_id ∷ lowered n

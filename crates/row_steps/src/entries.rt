@@ -1,18 +1,18 @@
-ghost use Rattle.std.specs.Prelude.{◌≡◌, ℕ, ◌==◌, List, ◌∷◌, false, nat_lt, IsTrue, Some};
+ghost use Rattle.std.specs.Prelude.{◌≡◌, ℕ, ◌==◌, List, ◌∷◌, false, nat_lt, IsTrue, None, Some};
 ghost use Rattle.std.specs.List.{list_all};
 ghost use Rattle.s3_base.specs.Numbers.{root};
 ghost use Rattle.s3_base.specs.declared.node_kind.Kind.TheVariants as kinds;
 ghost use Rattle.plain_tree.specs.Tree.{Tree};
 ghost use Rattle.plain_tree.specs.Entries.{add_entry, drop_entry};
-ghost use Rattle.s3_rows.specs.Rows.{Inode, Name, Content, Parameters};
+ghost use Rattle.s3_rows.specs.Rows.{Inode, Name, Content, Attr, Parameters};
 ghost use Rattle.s3_rows.specs.Tables.{Tables};
 ghost use Rattle.s3_rows.specs.Batches.{tables_after};
-ghost use Rattle.s3_rows.specs.Selections.{inode_at, name_at, entry_at};
+ghost use Rattle.s3_rows.specs.Selections.{inode_at, name_at, entry_at, attr_at};
 ghost use Rattle.s3_rows.specs.Validity.{HasUniqueNames};
 ghost use Rattle.tree_rows.specs.Shapes.{Represents};
 ghost use Rattle.ref_counts.specs.Names.{Raised, raised};
 ghost use Rattle.row_steps.specs.Owed.{Owes, has_entry};
-ghost use Rattle.row_steps.specs.RowChanges.{dropping, entering};
+ghost use Rattle.row_steps.specs.RowChanges.{dropping, dropping_attr, entering};
 
 /// An entry that goes, with the use of its name, owes the link of its inode, and is one less of the tree.
 pub fn entries_that_go_owe_a_link()
@@ -44,4 +44,15 @@ pub fn entries_that_come_are_owed_links()
         → Owes t p (inode ∷ links) uses → IsTrue (list_all (λ id. nat_lt id p.next_name) uses) → raised t name ≡ Some more
         → inode_at t directory.id ≡ Some directory → directory.kind ≡ kinds.Directory → has_entry t directory.id name ≡ false → (inode == root) ≡ false
         → IsTrue (nat_lt inode p.next_inode) → HasUniqueNames t → HasUniqueNames (tables_after (entering directory more inode now) t) }
+{}
+
+/// An attribute that goes, with the use of its name, owes nothing, and leaves the tree where its inode went before.
+pub fn attributes_that_go_owe_nothing()
+    ensures owes { (t : Tables) (p : Parameters) (a : Attr) (n : Name) (links uses : List ℕ) → Owes t p links uses → attr_at t a.inode a.name_id ≡ Some a
+        → name_at t a.name_id ≡ Some n → Owes (tables_after (dropping_attr a n) t) p links uses }
+    ensures represents { (t : Tables) (p : Parameters) (a : Attr) (n : Name) (links uses : List ℕ) → Owes t p links uses → attr_at t a.inode a.name_id ≡ Some a
+        → name_at t a.name_id ≡ Some n → (whole : Tree) → inode_at t a.inode ≡ None → Represents t whole
+        → Represents (tables_after (dropping_attr a n) t) whole }
+    ensures unique { (t : Tables) (p : Parameters) (a : Attr) (n : Name) (links uses : List ℕ) → Owes t p links uses → attr_at t a.inode a.name_id ≡ Some a
+        → name_at t a.name_id ≡ Some n → HasUniqueNames t → HasUniqueNames (tables_after (dropping_attr a n) t) }
 {}

@@ -13,7 +13,9 @@ pub use debts::{
     other_rows_owe_what_they_count, raised_names_owe_a_use,
     tables_that_owe_nothing_have_the_premises, targets_owe_nothing, valid_tables_owe_nothing,
 };
-pub use entries::{entries_that_come_are_owed_links, entries_that_go_owe_a_link};
+pub use entries::{
+    attributes_that_go_owe_nothing, entries_that_come_are_owed_links, entries_that_go_owe_a_link,
+};
 pub use steps::{
     new_directories_are_steps, new_files_are_steps, tables_after_operations_are_valid,
 };

@@ -1,0 +1,5 @@
+use Rattle.row_steps.proofs.Dropping.{HasUniqueNames-dropping_attr, Owes-dropping_attr, Represents-dropping_attr}
+use Rattle.row_steps.proofs.entries.attributes_that_go_owe_nothing.Goals as goal
+
+pub returns : goal.returns
+returns c = record { owes = Owes-dropping_attr; represents = Represents-dropping_attr; unique = HasUniqueNames-dropping_attr }
