@@ -3,7 +3,7 @@ ghost use Rattle.s3_base.specs.declared.node_kind.Kind.TheVariants as kinds;
 ghost use Rattle.plain_tree.specs.Tree.{Node, Tree, change_node, with_node, without_node};
 ghost use Rattle.plain_tree.specs.Entries.{add_entry, drop_entry};
 ghost use Rattle.s3_rows.specs.declared.change.Change.TheVariants as changes;
-ghost use Rattle.s3_rows.specs.Rows.{Inode, Name, Content, Parameters};
+ghost use Rattle.s3_rows.specs.Rows.{Inode, Name, Content, Target, Parameters};
 ghost use Rattle.s3_rows.specs.Tables.{Tables};
 ghost use Rattle.s3_rows.specs.Batches.{after_change, tables_after};
 ghost use Rattle.s3_rows.specs.Selections.{inode_at, name_at, entry_at, bytes_of_name};
@@ -46,10 +46,12 @@ pub fn entries_are_entries()
         (drop_entry directory.id (bytes_of_name t c.name_id) now whole) }
 {}
 
-/// Attributes and targets of a number that has no row leave the tree.
+/// Attributes and targets of a number that has no row, or not yet, leave the tree.
 pub fn rows_of_no_node_leave_the_tree()
     ensures attrs { (t : Tables) (whole : Tree) (id name_id : ℕ) → inode_at t id ≡ None → Represents t whole
         → Represents (after_change (changes.DeleteAttr id name_id) t) whole }
     ensures targets { (t : Tables) (whole : Tree) (id : ℕ) → inode_at t id ≡ None → Represents t whole
         → Represents (after_change (changes.DeleteTarget id) t) whole }
+    ensures new_targets { (t : Tables) (whole : Tree) (r : Target) → inode_at t r.inode ≡ None → Represents t whole
+        → Represents (after_change (changes.PutTarget r) t) whole }
 {}

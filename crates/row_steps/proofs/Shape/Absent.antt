@@ -8,10 +8,11 @@ use Rattle.s3_base.specs.declared.node_kind.Kind.TheVariants as kinds
 use Rattle.plain_tree.specs.Tree.{Tree}
 use Rattle.s3_rows.specs.declared.lists.NamedAttr.{NamedAttr}
 use Rattle.s3_rows.specs.Rows.{Inode, Target, Attr}
-use Rattle.s3_rows.specs.Keyed.{has_key, sorted_by, without}
+use Rattle.s3_rows.specs.Keyed.{has_key, put, row_at, sorted_by, without}
 use Rattle.s3_rows.specs.Tables.{Tables, by_attr, by_inode, by_target}
 use Rattle.s3_rows.specs.Selections.{inode_at, target_at, with_attr_name, by_attr_name}
 use Rattle.row_lemmas.proofs.Tests.{eqb_comm, false_from_not, is_eq-nat_cmp, list_all_from_find, list_all_weaker}
+use Rattle.row_lemmas.proofs.Keyed.Put.{row_at-put_other}
 use Rattle.row_lemmas.proofs.Keyed.Without.{row_at-without_other}
 use Rattle.tree_rows.specs.Shapes.{Directory, Regular, Link, NodeShape, attributes_in, content_of_row, entries_in, node_of_row, shape_of_tables, target_in, Represents}
 use Rattle.row_steps.proofs.Owed.Contents.{pair_parts}
@@ -68,18 +69,29 @@ Represents-without_attr_absent t whole id name_id none same =
     node : (x : Inode) → (x.id == id) ≡ false → node_of_row (record t { attrs = without by_attr (id, name_id) t.attrs }) x ≡ node_of_row t x
     node x apart = λ i. record (node_of_row t x) { attributes = attributes x.id apart i }
 
+-- other rows of targets, with those of all inodes that have a row
+targets_absent : (t : Tables) (whole : Tree) (id : ℕ) (rows : List Target) → inode_at t id ≡ None
+    → ((x : ℕ) → (x == id) ≡ false → row_at by_target x rows ≡ target_at t x) → Represents t whole → Represents (record t { targets = rows }) whole
+targets_absent t whole id rows none found same =
+    ap (λ (es : List (ℕ × NodeShape)). record (shape_of_tables t) { nodes = es })
+    (rows_agree t (record t { targets = rows }) id node t.inodes (no_row t id none)) ∙ same
+  where
+    node : (x : Inode) → (x.id == id) ≡ false → node_of_row (record t { targets = rows }) x ≡ node_of_row t x
+    node x apart =
+        let target : target_in (record t { targets = rows }) x.id ≡ target_in t x.id =
+        ap (λ (y : Option Target). unwrap_or (option_map (λ (r : Target). r.target) y) []) (found x.id apart) in
+        let content : content_of_row (record t { targets = rows }) x ≡ content_of_row t x =
+        (λ i. elim x.kind [ kinds.Directory ↦ Directory (entries_in t x.id) | kinds.Regular ↦ Regular x.size | kinds.Link ↦ Link (target i) ]) in
+        λ i. record (node_of_row t x) { content = content i }
+
 pub Represents-without_target_absent : (t : Tables) (whole : Tree) (id : ℕ) → inode_at t id ≡ None → Represents t whole
     → Represents (record t { targets = without by_target id t.targets }) whole
 Represents-without_target_absent t whole id none same =
-    ap (λ (es : List (ℕ × NodeShape)). record (shape_of_tables t) { nodes = es })
-    (rows_agree t (record t { targets = without by_target id t.targets }) id node t.inodes (no_row t id none)) ∙ same
-  where
-    node : (x : Inode) → (x.id == id) ≡ false → node_of_row (record t { targets = without by_target id t.targets }) x ≡ node_of_row t x
-    node x apart =
-        let found : target_at (record t { targets = without by_target id t.targets }) x.id ≡ target_at t x.id =
-        row_at-without_other by_target nat_cmp_total id x.id t.targets (is_eq-nat_cmp id x.id ∙ eqb_comm id x.id ∙ apart) in
-        let target : target_in (record t { targets = without by_target id t.targets }) x.id ≡ target_in t x.id =
-        ap (λ (y : Option Target). unwrap_or (option_map (λ (r : Target). r.target) y) []) found in
-        let content : content_of_row (record t { targets = without by_target id t.targets }) x ≡ content_of_row t x =
-        (λ i. elim x.kind [ kinds.Directory ↦ Directory (entries_in t x.id) | kinds.Regular ↦ Regular x.size | kinds.Link ↦ Link (target i) ]) in
-        λ i. record (node_of_row t x) { content = content i }
+    targets_absent t whole id (without by_target id t.targets) none
+    (λ x apart. row_at-without_other by_target nat_cmp_total id x t.targets (is_eq-nat_cmp id x ∙ eqb_comm id x ∙ apart)) same
+
+pub Represents-put_target_absent : (t : Tables) (whole : Tree) (r : Target) → inode_at t r.inode ≡ None → Represents t whole
+    → Represents (record t { targets = put by_target r t.targets }) whole
+Represents-put_target_absent t whole r none same =
+    targets_absent t whole r.inode (put by_target r t.targets) none
+    (λ x apart. row_at-put_other by_target nat_cmp_total x r t.targets (is_eq-nat_cmp x r.inode ∙ apart)) same
