@@ -1,23 +1,27 @@
 -- An entry that goes: it is deleted, its directory is touched, and its name is used once less. An attribute alike.
-use Rattle.std.proofs.Common.{◌≡◌, ℕ, List, [], ◌∷◌, false, Option, None, Some, refl, sym, ap, ◌∙◌, subst}
+use Rattle.std.proofs.Common.{◌≡◌, ℕ, ◌+◌, List, [], ◌∷◌, false, Option, None, Some, refl, sym, ap, ◌∙◌, subst}
 use Rattle.std.specs.Prelude.{◌==◌, is_some, option_map, unwrap_or}
+use Rattle.std.specs.Cmp.{nat_cmp_total}
 use Rattle.s3_base.specs.Numbers.{root}
 use Rattle.s3_base.specs.declared.node_kind.Kind.TheVariants as kinds
-use Rattle.plain_tree.specs.Tree.{Tree}
+use Rattle.plain_tree.specs.Tree.{Tree, change_node, stamped}
 use Rattle.plain_tree.specs.Entries.{drop_entry}
+use Rattle.s3_rows.specs.declared.change.Change.TheVariants as changes
 use Rattle.s3_rows.specs.Rows.{Inode, Name, Content, Attr, Parameters}
 use Rattle.s3_rows.specs.Keyed.{has_key, put, without}
 use Rattle.s3_rows.specs.Tables.{Tables, by_attr, by_entry, by_inode, by_name}
-use Rattle.s3_rows.specs.Batches.{tables_after}
+use Rattle.s3_rows.specs.Batches.{after_change, tables_after}
 use Rattle.s3_rows.specs.Selections.{inode_at, name_at, entry_at, attr_at}
 use Rattle.s3_rows.specs.Validity.{HasUniqueNames}
-use Rattle.row_lemmas.proofs.Tests.{find_passes}
+use Rattle.row_lemmas.proofs.Tests.{find_passes, is_eq-nat_cmp}
+use Rattle.row_lemmas.proofs.Keyed.Put.{row_at-put_other}
+use Rattle.tree_rows.proofs.Replaced.{replaced_represents}
 use Rattle.tree_rows.specs.Shapes.{Represents}
 use Rattle.row_steps.specs.Owed.{Owes}
-use Rattle.row_steps.specs.RowChanges.{dropping, dropping_attr, lowered, touched_row}
+use Rattle.row_steps.specs.RowChanges.{counted_row, dropping, dropping_attr, lowered, touched_row}
 use Rattle.row_steps.proofs.Owed.Attrs.{Owes-without_attr}
 use Rattle.row_steps.proofs.Owed.Contents.{Owes-without_content}
-use Rattle.row_steps.proofs.Owed.Inodes.{Owes-put_inode_same, one_number}
+use Rattle.row_steps.proofs.Owed.Inodes.{Owes-put_inode_less, Owes-put_inode_same, one_number}
 use Rattle.row_steps.proofs.Owed.Lowered.{IsLower, IsLower-lowered}
 use Rattle.row_steps.proofs.Shape.Absent.{Represents-without_attr_absent}
 use Rattle.row_steps.proofs.Shape.Deletes.{Represents-without_content}
@@ -55,6 +59,28 @@ module _ (t : Tables) (p : Parameters) (d : Inode) (c : Content) (n : Name) (now
 
   pub HasUniqueNames-dropping : HasUniqueNames t → HasUniqueNames (tables_after (dropping d c n now) t)
   HasUniqueNames-dropping unique = subst (λ (u : Tables). HasUniqueNames u) (sym lower.after) (lower.unique unique)
+
+  -- ---- the inode that it named keeps its other links
+
+  module _ (r : Inode) (child : r.id ≡ c.inode) (child_there : inode_at t r.id ≡ Some r) (apart : (r.id == d.id) ≡ false) (count : ℕ) (less : count + 1 ≡ r.refcount) where
+    abbrev stamped_row : Inode
+    stamped_row = counted_row count now r
+
+    still_there : inode_at (tables_after (dropping d c n now) t) r.id ≡ Some r
+    still_there =
+        ap (λ (u : Tables). inode_at u r.id) lower.after
+        ∙ row_at-put_other by_inode nat_cmp_total r.id (touched_row now d) t.inodes (is_eq-nat_cmp r.id d.id ∙ apart) ∙ child_there
+
+    pub Owes-unlinking : Owes (after_change (changes.PutInode stamped_row) (tables_after (dropping d c n now) t)) p links uses
+    Owes-unlinking =
+        Owes-put_inode_less (tables_after (dropping d c n now) t) p r stamped_row links uses
+        (subst (λ id. Owes (tables_after (dropping d c n now) t) p (id ∷ links) uses) (sym child) Owes-dropping) still_there refl refl less
+
+    pub Represents-unlinking : (whole : Tree) → d.kind ≡ kinds.Directory → Represents t whole
+        → Represents (after_change (changes.PutInode stamped_row) (tables_after (dropping d c n now) t)) (change_node r.id (stamped now) (drop_entry d.id n.name now whole))
+    Represents-unlinking whole kind same =
+        replaced_represents (tables_after (dropping d c n now) t) (drop_entry d.id n.name now whole) r stamped_row (stamped now)
+        Owes-dropping.ordered.inodes (Represents-dropping whole kind same) still_there (λ node shape i. record (shape i) { ctime = now })
 
 -- ---- an attribute
 

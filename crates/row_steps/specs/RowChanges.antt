@@ -60,3 +60,7 @@ entering directory more inode now =
 -- an attribute that goes is deleted, and its name used once less
 abbrev pub dropping_attr : Attr → Name → List Change
 dropping_attr a n = changes.DeleteAttr a.inode a.name_id ∷ lowered n
+
+-- the row of an inode with another count, at a time
+abbrev pub counted_row : ℕ → ℕ → Inode → Inode
+counted_row count now r = record r { ctime = now; refcount = count }

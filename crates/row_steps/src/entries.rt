@@ -1,18 +1,19 @@
-ghost use Rattle.std.specs.Prelude.{◌≡◌, ℕ, ◌==◌, List, ◌∷◌, false, nat_lt, IsTrue, None, Some};
+ghost use Rattle.std.specs.Prelude.{◌≡◌, ℕ, ◌+◌, ◌==◌, List, ◌∷◌, false, nat_lt, IsTrue, None, Some};
 ghost use Rattle.std.specs.List.{list_all};
 ghost use Rattle.s3_base.specs.Numbers.{root};
 ghost use Rattle.s3_base.specs.declared.node_kind.Kind.TheVariants as kinds;
-ghost use Rattle.plain_tree.specs.Tree.{Tree};
+ghost use Rattle.plain_tree.specs.Tree.{Tree, change_node, stamped};
 ghost use Rattle.plain_tree.specs.Entries.{add_entry, drop_entry};
+ghost use Rattle.s3_rows.specs.declared.change.Change.TheVariants as changes;
 ghost use Rattle.s3_rows.specs.Rows.{Inode, Name, Content, Attr, Parameters};
 ghost use Rattle.s3_rows.specs.Tables.{Tables};
-ghost use Rattle.s3_rows.specs.Batches.{tables_after};
+ghost use Rattle.s3_rows.specs.Batches.{after_change, tables_after};
 ghost use Rattle.s3_rows.specs.Selections.{inode_at, name_at, entry_at, attr_at};
 ghost use Rattle.s3_rows.specs.Validity.{HasUniqueNames};
 ghost use Rattle.tree_rows.specs.Shapes.{Represents};
 ghost use Rattle.ref_counts.specs.Names.{Raised, raised};
 ghost use Rattle.row_steps.specs.Owed.{Owes, has_entry};
-ghost use Rattle.row_steps.specs.RowChanges.{dropping, dropping_attr, entering};
+ghost use Rattle.row_steps.specs.RowChanges.{counted_row, dropping, dropping_attr, entering};
 
 /// An entry that goes, with the use of its name, owes the link of its inode, and is one less of the tree.
 pub fn entries_that_go_owe_a_link()
@@ -55,4 +56,18 @@ pub fn attributes_that_go_owe_nothing()
         → Represents (tables_after (dropping_attr a n) t) whole }
     ensures unique { (t : Tables) (p : Parameters) (a : Attr) (n : Name) (links uses : List ℕ) → Owes t p links uses → attr_at t a.inode a.name_id ≡ Some a
         → name_at t a.name_id ≡ Some n → HasUniqueNames t → HasUniqueNames (tables_after (dropping_attr a n) t) }
+{}
+
+/// Where the inode of an entry that goes counts one link less, nothing is owed for it, and its node is stamped.
+pub fn unlinked_inodes_count_one_link_less()
+    ensures owes { (t : Tables) (p : Parameters) (directory : Inode) (c : Content) (n : Name) (now : ℕ) (links uses : List ℕ) → Owes t p links uses
+        → inode_at t directory.id ≡ Some directory → directory.id ≡ c.parent → entry_at t c.parent c.name_id ≡ Some c → name_at t c.name_id ≡ Some n
+        → (c.inode == root) ≡ false → (r : Inode) → r.id ≡ c.inode → inode_at t r.id ≡ Some r → (r.id == directory.id) ≡ false → (count : ℕ)
+        → count + 1 ≡ r.refcount → Owes (after_change (changes.PutInode (counted_row count now r)) (tables_after (dropping directory c n now) t)) p links uses }
+    ensures represents { (t : Tables) (p : Parameters) (directory : Inode) (c : Content) (n : Name) (now : ℕ) (links uses : List ℕ) → Owes t p links uses
+        → inode_at t directory.id ≡ Some directory → directory.id ≡ c.parent → entry_at t c.parent c.name_id ≡ Some c → name_at t c.name_id ≡ Some n
+        → (c.inode == root) ≡ false → (r : Inode) → r.id ≡ c.inode → inode_at t r.id ≡ Some r → (r.id == directory.id) ≡ false → (count : ℕ)
+        → count + 1 ≡ r.refcount → (whole : Tree) → directory.kind ≡ kinds.Directory → Represents t whole
+        → Represents (after_change (changes.PutInode (counted_row count now r)) (tables_after (dropping directory c n now) t))
+        (change_node r.id (stamped now) (drop_entry directory.id n.name now whole)) }
 {}
