@@ -90,12 +90,20 @@ fn put_name(alloc: Global, frame: &mut Vec<u8>, word: &str) -> io::Result<()> {
     Ok(())
 }
 
+/// Adds bytes behind their length of four bytes. Too many of them add nothing.
+fn put_counted(frame: &mut Vec<u8>, bytes: &[u8]) -> Result<(), AllocError> {
+    match u32::try_from(bytes.len()) {
+        Ok(length) => {
+            frame.extend_from_slice(&length.to_be_bytes())?;
+            frame.extend_from_slice(bytes)
+        }
+        Err(_) => Ok(()),
+    }
+}
+
 fn put_data(alloc: Global, frame: &mut Vec<u8>, word: &str) -> io::Result<()> {
     if let Some(bytes) = bytes_of(alloc, word)? {
-        if let Ok(length) = u32::try_from(bytes.len()) {
-            frame.extend_from_slice(&length.to_be_bytes())?;
-            frame.extend_from_slice(&bytes)?;
-        }
+        put_counted(frame, &bytes)?;
     }
     Ok(())
 }
@@ -141,9 +149,6 @@ fn body_of(alloc: Global, text: &str) -> io::Result<Vec<u8>> {
 pub fn frame_of(alloc: Global, text: &str) -> io::Result<Vec<u8>> {
     let body = body_of(alloc, text)?;
     let mut frame = Vec::new(alloc);
-    if let Ok(length) = u32::try_from(body.len()) {
-        frame.extend_from_slice(&length.to_be_bytes())?;
-        frame.extend_from_slice(&body)?;
-    }
+    put_counted(&mut frame, &body)?;
     Ok(frame)
 }
