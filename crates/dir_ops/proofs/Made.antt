@@ -7,6 +7,7 @@ use Rattle.s3_base.specs.declared.errors.Errno.{Errno}
 use Rattle.op_frames.specs.declared.operation.Op.TheVariants as ops
 use Rattle.op_frames.specs.declared.reply.Reply.TheVariants as replies
 use Rattle.plain_tree.specs.Tree.{Node, Tree}
+use Rattle.plain_tree.specs.WellFormed.{IsWellFormed}
 use Rattle.plain_tree.specs.Attributes.{attr_of}
 use Rattle.plain_tree.specs.Checks.{first_failure, name_check, mode_check}
 use Rattle.plain_tree.specs.Operations.{checks, effect, success, new_file}
@@ -127,11 +128,11 @@ pub made : (told : Option Told) (h : OpenHandles) (p : Parameters) (directory : 
     → batch ≡ middle ++ changes.PutContent (record { parent = directory.id; name_id = name_id; inode = p.next_inode }) ∷ changes.PutInode (new_file_row p.next_inode mode uid gid now) ∷ changes.PutInode (touched_row now directory) ∷ []
     → plan ≡ plans.Commit batch (replies.Opened h.next (attr_of_row (new_file_row p.next_inode mode uid gid now))) []
     → IfTold told (λ t. IsOrdered t → StaysUnique before t → IsRaised (raised (tables_after before t) name) before answer middle)
-    → IfTold told (λ t. IsValid t → HasUniqueNames t → (whole : Tree) (pass parent : ℕ) → Represents t whole → HasHandles h whole → IsPlace t parent name directory p → first_failure (place_checks whole parent name) ≡ None
+    → IfTold told (λ t. IsValid t → HasUniqueNames t → (whole : Tree) (pass parent : ℕ) → Represents t whole → IsWellFormed whole → HasHandles h whole → IsPlace t parent name directory p → first_failure (place_checks whole parent name) ≡ None
     → IsPlanOf t whole pass (ops.Create parent name mode uid gid) now plan)
 made None h p directory name mode uid gid now name_id before middle batch answer plan legal fits begins given grown is raised_told = tt
 made (Some s) h p directory name mode uid gid now name_id before middle batch answer plan legal fits begins given grown is raised_told =
-    λ v unique whole pass parent same hands place open_place.
+    λ v unique whole pass parent same well hands place open_place.
     let t : Tables = s.tables in
     let used : IsRaised (raised (tables_after before t) name) before answer middle = raised_told v.ordered (subst (λ cs. StaysUnique cs t) (sym begins) (unique, unique)) in
     let row : Inode = new_file_row p.next_inode mode uid gid now in

@@ -4,6 +4,7 @@ ghost use Rattle.s3_base.specs.Faults.{HasCause};
 ghost use Rattle.op_frames.specs.declared.operation.Op.TheVariants as ops;
 ghost use Rattle.op_frames.specs.declared.reply.Reply.TheVariants as replies;
 ghost use Rattle.plain_tree.specs.Tree.{Tree};
+ghost use Rattle.plain_tree.specs.WellFormed.{IsWellFormed};
 ghost use Rattle.plain_tree.specs.Checks.{fails_with, first_failure, name_check, mode_check};
 ghost use Rattle.s3_base.specs.Errors.{eexist, enospc};
 ghost use Rattle.s3_rows.specs.declared.change.Change.TheVariants as changes;
@@ -135,7 +136,7 @@ fn make<K: Keeper>(
     requires mode { mode_check new.now.mode ≡ None }
     requires now { new.now.now < 2 ^ 62 }
     requires next { params.now.next_inode < 2 ^ 62 }
-    ensures plan { IfOk result (λ p. IfTold (K.told keeper.old) (λ t. IsValid t → HasUniqueNames t → (whole : Tree) (pass parent : ℕ) → Represents t whole → HasHandles handles.now whole
+    ensures plan { IfOk result (λ p. IfTold (K.told keeper.old) (λ t. IsValid t → HasUniqueNames t → (whole : Tree) (pass parent : ℕ) → Represents t whole → IsWellFormed whole → HasHandles handles.now whole
         → IsPlace t parent name.now directory.now params.now → first_failure (place_checks whole parent name.now) ≡ None
         → IsPlanOf t whole pass (ops.Create parent name.now new.entry.now.mode new.entry.now.uid new.entry.now.gid) new.entry.now.now p)) }
     ensures same { K.told keeper.new ≡ K.told keeper.old }
@@ -177,7 +178,7 @@ pub fn plan_create<K: Keeper>(
     new: &NewFile,
 ) -> Result<Plan, KeeperFault>
     requires { new.now.now < 2 ^ 62 }
-    ensures plan { IfOk result (λ p. IfTold (K.told keeper.old) (λ t. IsValid t → HasUniqueNames t → (whole : Tree) (pass : ℕ) → Represents t whole → HasHandles handles.now whole
+    ensures plan { IfOk result (λ p. IfTold (K.told keeper.old) (λ t. IsValid t → HasUniqueNames t → (whole : Tree) (pass : ℕ) → Represents t whole → IsWellFormed whole → HasHandles handles.now whole
         → IsPlanOf t whole pass (ops.Create parent name.now new.entry.now.mode new.entry.now.uid new.entry.now.gid) new.entry.now.now p)) }
     ensures same { K.told keeper.new ≡ K.told keeper.old }
     ensures cause { HasCause (K.faults keeper.old) (K.faults keeper.new) (has_failed result) }

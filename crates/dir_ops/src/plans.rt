@@ -3,6 +3,7 @@ ghost use Rattle.std.specs.Prelude.{◌≡◌, ◌<◌, ◌^◌, ℕ, IsTrue, If
 ghost use Rattle.s3_base.specs.Faults.{HasCause};
 ghost use Rattle.op_frames.specs.Operations.{is_op};
 ghost use Rattle.plain_tree.specs.Tree.{Tree};
+ghost use Rattle.plain_tree.specs.WellFormed.{IsWellFormed};
 ghost use Rattle.s3_rows.specs.Tables.{Tables};
 ghost use Rattle.s3_rows.specs.Told.{IfTold, has_failed};
 ghost use Rattle.s3_rows.specs.Validity.{IsValid, HasUniqueNames};
@@ -29,7 +30,7 @@ pub fn plan<K: Keeper>(
     requires planned { IsTrue (is_planned op.now) }
     requires now { now < 2 ^ 62 }
     ensures plan { IfOk result (λ p. IfTold (K.told keeper.old) (λ t. IsValid t → HasUniqueNames t
-        → (whole : Tree) → Represents t whole → HasHandles handles.now whole → IsPlanOf t whole pass op.now now p)) }
+        → (whole : Tree) → Represents t whole → IsWellFormed whole → HasHandles handles.now whole → IsPlanOf t whole pass op.now now p)) }
     ensures same { K.told keeper.new ≡ K.told keeper.old }
     ensures cause { HasCause (K.faults keeper.old) (K.faults keeper.new) (has_failed result) }
     ensures fit { IfOk result HasFitReply }

@@ -4,6 +4,7 @@ ghost use Rattle.s3_base.specs.Faults.{HasCause};
 ghost use Rattle.s3_rows.specs.Told.{IfTold, has_failed};
 ghost use Rattle.s3_rows.specs.Validity.{IsValid};
 ghost use Rattle.plain_tree.specs.Tree.{Tree};
+ghost use Rattle.plain_tree.specs.WellFormed.{IsWellFormed};
 ghost use Rattle.tree_rows.specs.Shapes.{Represents};
 ghost use Rattle.ref_counts.specs.Handles.{HasHandles};
 ghost use Rattle.plain_tree.specs.Classes.{class_of, is_closing};
@@ -33,7 +34,7 @@ pub fn plan<K: Keeper>(
     requires now { now < 2 ^ 62 }
     // Where handles go, every inode has a name, so that nothing goes with them.
     ensures plan { IfOk result (λ p. IfTold (K.told keeper.old) (λ t. IsValid t → (IsTrue (is_closing (class_of op.now)) → AreNamed t)
-        → (whole : Tree) → Represents t whole → HasHandles handles.now whole → IsPlanOf t whole pass op.now now p)) }
+        → (whole : Tree) → Represents t whole → IsWellFormed whole → HasHandles handles.now whole → IsPlanOf t whole pass op.now now p)) }
     ensures same { K.told keeper.new ≡ K.told keeper.old }
     ensures cause { HasCause (K.faults keeper.old) (K.faults keeper.new) (has_failed result) }
     ensures fit { IfOk result HasFitReply }

@@ -1,11 +1,10 @@
 -- A new file and a new directory in a directory.
-use Rattle.std.proofs.Common.{◌≡◌, ℕ, List, [], false, Option, None, Some, refl, sym, ap, ◌∙◌, subst}
+use Rattle.std.proofs.Common.{◌≡◌, ℕ, List, [], false, None, Some, refl, sym, ap, ◌∙◌, subst}
 use Rattle.std.specs.Prelude.{IsTrue}
-use Rattle.op_frames.specs.declared.operation.Op.{Op}
 use Rattle.op_frames.specs.declared.operation.Op.TheVariants as ops
 use Rattle.plain_tree.specs.Tree.{Handle, Node, Tree, with_handle}
 use Rattle.plain_tree.specs.Checks.{first_failure}
-use Rattle.plain_tree.specs.Operations.{checks, effect, new_directory, new_file, tree_after, with_new_file, with_new_node}
+use Rattle.plain_tree.specs.Operations.{checks, effect, new_directory, new_file, with_new_file, with_new_node}
 use Rattle.plain_tree.specs.WellFormed.{IsWellFormed}
 use Rattle.s3_rows.specs.Rows.{Inode, Parameters}
 use Rattle.s3_rows.specs.Tables.{Tables}
@@ -13,7 +12,7 @@ use Rattle.s3_rows.specs.Batches.{tables_after}
 use Rattle.s3_rows.specs.Selections.{inode_at}
 use Rattle.s3_rows.specs.Validity.{IsValid, HasUniqueNames}
 use Rattle.tree_laws.proofs.Walk.Passed.{CanMake, can_create, can_mkdir}
-use Rattle.tree_laws.proofs.WellFormed.{IsWellFormed-tree_after}
+use Rattle.tree_laws.proofs.WellFormed.{IsWellFormed-effect}
 use Rattle.tree_rows.specs.Premises.{fits_kind}
 use Rattle.tree_rows.specs.Shapes.{Directory, Regular, node_of_row, shape_of_node, Represents}
 use Rattle.std.specs.List.{list_any}
@@ -26,13 +25,6 @@ use Rattle.row_steps.proofs.Making.{IsMaking, made_step}
 use Rattle.row_steps.proofs.Owed.Draws.{next_has_no_attributes, next_has_no_entries}
 use Rattle.row_steps.proofs.Owed.Ends.{Owes-IsValid}
 use Rattle.row_steps.proofs.Place.{free_there, kind_there}
-
--- the tree after an operation whose checks all pass
-pub effect_well : (t : Tree) (pass now : ℕ) (op : Op) → IsWellFormed t → first_failure (checks t pass op) ≡ None → IsWellFormed (effect t pass op now)
-unfolding tree_after
-effect_well t pass now op well passes =
-    subst (λ (found : Option ℕ). IsWellFormed (elim found [ Some errno ↦ t | None ↦ effect t pass op now ])) passes
-    (IsWellFormed-tree_after t pass now op well)
 
 -- what is needed of the row and the node, beside the passed checks of their place; handles may have been opened
 module _ (t : Tables) (whole : Tree) (p : Parameters) (directory new : Inode) (node : Node) (more : Raised) (parent : ℕ) (name : List ℕ)
@@ -81,7 +73,7 @@ new_file_step t whole p directory more pass parent mode uid gid now name v uniqu
     (made_step t (with_handle handle whole) p directory row node more name now
     (making t whole p directory row node more parent name v unique same made found can.1 used (with_handle handle whole) same refl refl refl shape)
     (subst (λ x. IsWellFormed (with_new_file whole pass x name (new_file mode uid gid now) now)) number
-    (effect_well whole pass now (ops.Create parent name mode uid gid) well passes)))
+    (IsWellFormed-effect whole pass now (ops.Create parent name mode uid gid) well passes)))
 
 pub new_directory_step : (t : Tables) (whole : Tree) (p : Parameters) (directory : Inode) (more : Raised) (pass parent mode uid gid now : ℕ) (name : List ℕ)
     → IsValid t → HasUniqueNames t → IsWellFormed whole → Represents t whole → t.params ≡ Some p → inode_at t parent ≡ Some directory
@@ -107,4 +99,4 @@ new_directory_step t whole p directory more pass parent mode uid gid now name v 
     (made_step t whole p directory row node more name now
     (making t whole p directory row node more parent name v unique same made found can.1 used whole same refl refl refl shape)
     (subst (λ x. IsWellFormed (with_new_node x name (new_directory mode uid gid now) now whole)) number
-    (effect_well whole pass now (ops.Mkdir parent name mode uid gid) well passes)))
+    (IsWellFormed-effect whole pass now (ops.Mkdir parent name mode uid gid) well passes)))

@@ -1,10 +1,10 @@
 -- Well-formed trees stay well formed.
-use Rattle.std.proofs.Common.{◌≡◌, ◌<◌, ℕ, ◌^◌, List, None, refl, ap, ◌∙◌, arith}
+use Rattle.std.proofs.Common.{◌≡◌, ◌<◌, ℕ, ◌^◌, List, Option, None, Some, refl, ap, ◌∙◌, subst, arith}
 use Rattle.op_frames.specs.Replay.{Request}
 use Rattle.op_frames.specs.declared.operation.Op.{Op}
 use Rattle.plain_tree.specs.Calls.{tree_after_all}
-use Rattle.plain_tree.specs.Checks.{name_check}
-use Rattle.plain_tree.specs.Operations.{tree_after}
+use Rattle.plain_tree.specs.Checks.{first_failure, name_check}
+use Rattle.plain_tree.specs.Operations.{checks, effect, tree_after}
 use Rattle.plain_tree.specs.Tree.{Tree, lost_and_found, made_tree}
 use Rattle.plain_tree.specs.WellFormed.{IsWellFormed, HasTimes}
 use Rattle.tree_laws.proofs.Name.Legal.{NamesAreLegal, NamesAreLegal-tree_after}
@@ -42,6 +42,13 @@ IsWellFormed-tree_after t pass now op well =
       rules = IsWithinRules-tree_after t pass now op well.rules;
       modes = HaveModes-tree_after t pass now op well.modes;
     }
+
+-- in the words of an operation whose checks all pass
+pub IsWellFormed-effect : (t : Tree) (pass now : ℕ) (op : Op) → IsWellFormed t → first_failure (checks t pass op) ≡ None → IsWellFormed (effect t pass op now)
+unfolding tree_after
+IsWellFormed-effect t pass now op well passes =
+    subst (λ (found : Option ℕ). IsWellFormed (elim found [ Some errno ↦ t | None ↦ effect t pass op now ])) passes
+    (IsWellFormed-tree_after t pass now op well)
 
 -- and so do any calls
 pub IsWellFormed-tree_after_all : (t : Tree) (calls : List Request) → IsWellFormed t → IsWellFormed (tree_after_all t calls)

@@ -8,9 +8,11 @@ use Rattle.plain_tree.specs.Classes.{class_of, is_of_inodes, is_of_entries, is_c
 use Rattle.plain_tree.specs.Tree.{Tree}
 use Rattle.plain_tree.specs.Checks.{fails_with, first_failure, hand_check}
 use Rattle.plain_tree.specs.Operations.{checks, effect}
+use Rattle.plain_tree.specs.WellFormed.{IsWellFormed}
 use Rattle.s3_rows.specs.Told.{Told, IfTold}
 use Rattle.s3_rows.specs.Validity.{IsValid, HasUniqueNames}
 use Rattle.tree_rows.specs.Shapes.{Represents}
+use Rattle.tree_laws.proofs.WellFormed.{IsWellFormed-effect}
 use Rattle.inode_ops.specs.Plans as inode_plans
 use Rattle.dir_ops.specs.Plans as dir_plans
 use Rattle.ref_counts.specs.Handles.{OpenHandles, HasHandles}
@@ -58,7 +60,7 @@ module _ {K : Type 0} (told : K → Option Told) (before after : RowCore K) (who
       let next = goes plan.0 in (
         plan.0,
         is.0 ∙ plan.1,
-        stepped told before after whole (effect whole pass op now) batch (names_drawn whole op) s plan.2 is.1 next.0 next.1,
+        stepped told before after whole (effect whole pass op now) batch (names_drawn whole op) s plan.2 (IsWellFormed-effect whole pass now op s.well plan.0) is.1 next.0 next.1,
         told_after batch (keeps_rows whole pass op) (names_drawn whole op) (told before.keeper) (told after.keeper) s.now (effect whole pass op now) plan.3 is.1 s.tells plan.2,
         λ worn. plan.5 (told_fact (told before.keeper) s.now (λ t. IsWorn t whole op) s.tells worn),
       )
@@ -127,16 +129,16 @@ module _ {K : Type 0} (told : K → Option Told) (before after : RowCore K) (who
       (subst (λ t. IsFulfilled plan pass op t (told after.keeper) before.handles after.handles result) same is)
 
   pub inodes_so : IsTrue (inode_plans.is_planned op)
-      → IfTold (told before.keeper) (λ t. IsValid t → (IsTrue (is_closing (class_of op)) → AreNamed t) → (w : Tree) → Represents t w → HasHandles before.handles w → IsPlanOf t w pass op now plan)
+      → IfTold (told before.keeper) (λ t. IsValid t → (IsTrue (is_closing (class_of op)) → AreNamed t) → (w : Tree) → Represents t w → IsWellFormed w → HasHandles before.handles w → IsPlanOf t w pass op now plan)
       → IsOutcome told before after whole pass op now result
   inodes_so planned own =
       by_plan (either_plan (is_of_inodes (class_of op)) (is_of_entries (class_of op)) (is_built op) planned)
-      (told_fact (told before.keeper) s.now (λ t. IsValid t → (IsTrue (is_closing (class_of op)) → AreNamed t) → (w : Tree) → Represents t w → HasHandles before.handles w → IsPlanOf t w pass op now plan) s.tells own
-      s.served.valid (λ closes. s.served.named) whole s.represents s.handles)
+      (told_fact (told before.keeper) s.now (λ t. IsValid t → (IsTrue (is_closing (class_of op)) → AreNamed t) → (w : Tree) → Represents t w → IsWellFormed w → HasHandles before.handles w → IsPlanOf t w pass op now plan) s.tells own
+      s.served.valid (λ closes. s.served.named) whole s.represents s.well s.handles)
 
   pub entries_so : IsTrue (dir_plans.is_planned op)
-      → IfTold (told before.keeper) (λ t. IsValid t → HasUniqueNames t → (w : Tree) → Represents t w → HasHandles before.handles w → IsPlanOf t w pass op now plan) → IsOutcome told before after whole pass op now result
+      → IfTold (told before.keeper) (λ t. IsValid t → HasUniqueNames t → (w : Tree) → Represents t w → IsWellFormed w → HasHandles before.handles w → IsPlanOf t w pass op now plan) → IsOutcome told before after whole pass op now result
   entries_so planned own =
       by_plan (or_plan (is_of_inodes (class_of op)) (is_of_entries (class_of op)) (is_built op) planned)
-      (told_fact (told before.keeper) s.now (λ t. IsValid t → HasUniqueNames t → (w : Tree) → Represents t w → HasHandles before.handles w → IsPlanOf t w pass op now plan) s.tells own
-      s.served.valid s.served.unique whole s.represents s.handles)
+      (told_fact (told before.keeper) s.now (λ t. IsValid t → HasUniqueNames t → (w : Tree) → Represents t w → IsWellFormed w → HasHandles before.handles w → IsPlanOf t w pass op now plan) s.tells own
+      s.served.valid s.served.unique whole s.represents s.well s.handles)

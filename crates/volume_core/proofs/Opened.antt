@@ -131,6 +131,7 @@ opened told core s whole ready same start mounting handles files =
       };
       mounted = refl;
       represents = served_represents s.tables v whole same;
-      handles = (start.0 ∙ ap (λ h. h.next) (sym handles), start.1 ∙ ap (λ h. h.handles) (sym handles));
+      well = start.0;
+      handles = (start.1 ∙ ap (λ h. h.next) (sym handles), start.2 ∙ ap (λ h. h.handles) (sym handles));
       bytes = subst (λ (f : Files). HasBytes f whole) (sym files) (empty_files s.tables whole same ready.empty);
     }

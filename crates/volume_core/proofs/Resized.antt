@@ -12,6 +12,7 @@ use Rattle.plain_tree.specs.Tree.{Node, Tree, node_at, handle_of, change_node, t
 use Rattle.plain_tree.specs.Checks.{first_failure, size_check}
 use Rattle.plain_tree.specs.Files.{resized, with_bytes}
 use Rattle.plain_tree.specs.Operations.{checks, effect, attr_reply}
+use Rattle.plain_tree.specs.WellFormed.{IsWellFormed}
 use Rattle.s3_rows.specs.declared.change.Change.TheVariants as changes
 use Rattle.s3_rows.specs.Rows.{Inode}
 use Rattle.s3_rows.specs.Keyed.{has_key}
@@ -22,6 +23,7 @@ use Rattle.s3_rows.specs.Told.{Told, IfTold, with_batch}
 use Rattle.s3_rows.specs.Validity.{is_regular}
 use Rattle.row_lemmas.proofs.Tests.{find_passes_all}
 use Rattle.row_lemmas.proofs.ReplacedInode.{resized_valid}
+use Rattle.tree_laws.proofs.WellFormed.{IsWellFormed-effect}
 use Rattle.tree_rows.specs.Attrs.{attr_of_row}
 use Rattle.tree_rows.specs.Shapes.{ContentShape, Regular, NodeShape, shape_of_content, node_of_row, Represents}
 use Rattle.tree_rows.proofs.Attributed.{attr_is}
@@ -94,10 +96,10 @@ module _ {K : Type 0} (told : K → Option Told) (before after : RowCore K) (who
       let number : whole.next_inode ≡ s.served.valid.params.next_inode = next_inode-row t whole s.served.valid.params s.represents s.served.valid.is_made in
       omega (arith, ltb-true r.id s.served.valid.params.next_inode in_use, number)
 
-  module _ (committed : told after.keeper ≡ option_map (with_batch (changes.PutInode new ∷ [])) (told before.keeper)) (handles : after.handles ≡ before.handles)
+  module _ (well : IsWellFormed next) (committed : told after.keeper ≡ option_map (with_batch (changes.PutInode new ∷ [])) (told before.keeper)) (handles : after.handles ≡ before.handles)
       (files : IsChanged r.id g before.files after.files) where
     pub stands : StandsFor told after next
-    stands = stepped told before after whole next (changes.PutInode new ∷ []) drawn s step committed (
+    stands = stepped told before after whole next (changes.PutInode new ∷ []) drawn s step well committed (
       next_handle_kept (changed_file g now r.id whole) r.id whole ∙ s.handles.0 ∙ ap (λ h. h.next) (sym handles),
       handles_kept (changed_file g now r.id whole) r.id whole ∙ s.handles.1 ∙ ap (λ h. h.handles) (sym handles),
     ) (bytes_changed_alike g now r.id whole before.files after.files s.bytes below files)
@@ -146,13 +148,16 @@ module _ {K : Type 0} (told : K → Option Told) (before after : RowCore K) (who
     truncated few fits committed handles files =
         let regular : r.kind ≡ kinds.Regular = kind_is r.kind facts.0 in
         let long : (bytes : List ℕ) → length bytes ≡ r.size → length (resized size bytes) ≡ size = λ bytes is. length-resized size bytes in
+        let passes : first_failure (checks whole pass (ops.Truncate inode size)) ≡ None = checked ∙ ap (λ (c : Option ℕ). first_failure (c ∷ [])) fits in
+        let well : IsWellFormed (next told before after whole s r size now 0 (resized size) there regular long) =
+        subst (λ x. IsWellFormed (effect whole pass (ops.Truncate x size) now)) number (IsWellFormed-effect whole pass now (ops.Truncate inode size) s.well passes) in
         let stands_next : StandsFor told after (next told before after whole s r size now 0 (resized size) there regular long) =
-        stands told before after whole s r size now 0 (resized size) there regular long committed handles files in
+        stands told before after whole s r size now 0 (resized size) there regular long well committed handles files in
         let reply = reply_is told before after whole s r size now 0 (resized size) there regular long few in (
-          checked ∙ ap (λ (c : Option ℕ). first_failure (c ∷ [])) fits,
+          passes,
           sym (subst (λ x. attr_reply (effect whole pass (ops.Truncate x size) now) x ≡ replies.Attr (attr_of_row (record r { size = size; mtime = now; ctime = now }))) (sym number) reply),
           subst (λ x. StandsFor told after (effect whole pass (ops.Truncate x size) now)) (sym number) stands_next,
-          is_told told before after whole s r size now 0 (resized size) there regular long committed handles files,
+          is_told told before after whole s r size now 0 (resized size) there regular long well committed handles files,
           told_fact (told before.keeper) s.now (λ t. IsWorn t whole (ops.Truncate inode size)) s.tells,
         )
 

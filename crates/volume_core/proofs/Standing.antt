@@ -8,6 +8,7 @@ use Rattle.s3_rows.specs.Tables.{Tables}
 use Rattle.s3_rows.specs.Batches.{tables_after}
 use Rattle.s3_rows.specs.Told.{Told, IfTold, with_batch}
 use Rattle.plain_tree.specs.Tree.{Tree}
+use Rattle.plain_tree.specs.WellFormed.{IsWellFormed}
 use Rattle.ref_counts.specs.Handles.{HasHandles}
 use Rattle.ref_counts.specs.Plans.{IsStep, LeavesRest, IsSmall, settings}
 use Rattle.volume_core.specs.declared.row_core.RowCore.{RowCore}
@@ -39,6 +40,7 @@ module _ {K : Type 0} (told : K → Option Told) where
     served = s.served;
     mounted = s.mounted;
     represents = s.represents;
+    well = s.well;
     handles = (s.handles.0 ∙ ap (λ h. h.next) (sym handles), s.handles.1 ∙ ap (λ h. h.handles) (sym handles));
     bytes = record { bytes = λ x b is. files x ∙ s.bytes.bytes x b is; fresh = λ x above. files x ∙ s.bytes.fresh x above };
   }
@@ -74,11 +76,11 @@ pub committed_told : (batch : List Change) (before after : Option Told) (s : Tol
 committed_told [] before after s is tells = (s, is ∙ tells, refl)
 committed_told (c ∷ cs) before after s is tells = (with_batch (c ∷ cs) s, is ∙ ap (option_map (with_batch (c ∷ cs))) tells, refl)
 
--- a batch was committed that makes the tables represent another tree, whose handles and bytes the core has
+-- a batch was committed that makes the tables represent another well-formed tree, whose handles and bytes the core has
 pub stepped : {K : Type 0} (told : K → Option Told) (before after : RowCore K) (whole next : Tree) (batch : List Change) (drawn : ℕ) (s : StandsFor told before whole)
-    → IsStep s.now.tables (tables_after batch s.now.tables) next drawn → IsCommitted batch (told before.keeper) (told after.keeper) → HasHandles after.handles next → HasBytes after.files next
+    → IsStep s.now.tables (tables_after batch s.now.tables) next drawn → IsWellFormed next → IsCommitted batch (told before.keeper) (told after.keeper) → HasHandles after.handles next → HasBytes after.files next
     → StandsFor told after next
-stepped told before after whole next batch drawn s step committed handles bytes =
+stepped told before after whole next batch drawn s step well committed handles bytes =
     let later = committed_told batch (told before.keeper) (told after.keeper) s.now committed s.tells in
     let is : IsStep s.now.tables later.0.tables next drawn = subst (λ (t : Tables). IsStep s.now.tables t next drawn) (sym later.2) step in
     record {
@@ -87,6 +89,7 @@ stepped told before after whole next batch drawn s step committed handles bytes 
       served = served_after s.now.tables later.0.tables next drawn s.served is;
       mounted = mounted_after s.now.tables later.0.tables next drawn s.mounted is;
       represents = is.represents;
+      well = well;
       handles = handles;
       bytes = bytes;
     }

@@ -9,11 +9,13 @@ use Rattle.plain_tree.specs.Tree.{Tree, node_at, handle_of, change_node}
 use Rattle.plain_tree.specs.Checks.{fails_with, first_failure, lock_check, open_check, read_length_check, write_end_check}
 use Rattle.plain_tree.specs.Files.{written_at, read_at, open_file, inode_of}
 use Rattle.plain_tree.specs.Operations.{checks, effect}
+use Rattle.plain_tree.specs.WellFormed.{IsWellFormed}
 use Rattle.s3_rows.specs.declared.change.Change.TheVariants as changes
 use Rattle.s3_rows.specs.Rows.{Inode}
 use Rattle.s3_rows.specs.Tables.{Tables}
 use Rattle.s3_rows.specs.Told.{Told, IfTold, with_batch}
 use Rattle.s3_rows.specs.Validity.{is_regular}
+use Rattle.tree_laws.proofs.WellFormed.{IsWellFormed-effect}
 use Rattle.tree_rows.specs.Shapes.{NodeShape}
 use Rattle.ref_counts.specs.Handles.{inode_open}
 use Rattle.ref_counts.specs.Plans.{IsWorn}
@@ -154,13 +156,15 @@ module _ {K : Type 0} (told : K → Option Told) (before after : RowCore K) (who
           written some committed handles files =
               let positive : 0 < length bytes = positive_length bytes some in
               let at_row : changed ≡ next told before after whole s r (max r.size (offset + length bytes)) now 0 (written_at offset bytes) o.row (regular_row r found) (long_enough r.size positive) =
-              ap (λ x. change_node x (changed_file (written_at offset bytes) now r.id whole) whole) o.inode in (
+              ap (λ x. change_node x (changed_file (written_at offset bytes) now r.id whole) whole) o.inode in
+              let well : IsWellFormed (next told before after whole s r (max r.size (offset + length bytes)) now 0 (written_at offset bytes) o.row (regular_row r found) (long_enough r.size positive)) =
+              subst IsWellFormed (effect_is false some ∙ at_row) (IsWellFormed-effect whole pass now (ops.Write handle offset bytes) s.well passes) in (
                 passes,
                 refl,
                 subst (λ (x : Tree). StandsFor told after x) (sym (effect_is false some ∙ at_row))
-                    (stands told before after whole s r (max r.size (offset + length bytes)) now 0 (written_at offset bytes) o.row (regular_row r found) (long_enough r.size positive) committed handles files),
+                    (stands told before after whole s r (max r.size (offset + length bytes)) now 0 (written_at offset bytes) o.row (regular_row r found) (long_enough r.size positive) well committed handles files),
                 subst (λ b. IsToldAfter (not b) 0 (told before.keeper) (told after.keeper)) (sym some)
-                    (is_told told before after whole s r (max r.size (offset + length bytes)) now 0 (written_at offset bytes) o.row (regular_row r found) (long_enough r.size positive) committed handles files),
+                    (is_told told before after whole s r (max r.size (offset + length bytes)) now 0 (written_at offset bytes) o.row (regular_row r found) (long_enough r.size positive) well committed handles files),
                 told_fact (told before.keeper) s.now (λ t. IsWorn t whole (ops.Write handle offset bytes)) s.tells,
               )
 

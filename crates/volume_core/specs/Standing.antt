@@ -1,6 +1,7 @@
 -- When a core over rows stands for a tree.
 use Rattle.std.specs.Prelude.{◌≡◌, ℕ, List, [], ◌∷◌, Bool, true, false, Option, Some, option_map}
 use Rattle.plain_tree.specs.Tree.{Tree}
+use Rattle.plain_tree.specs.WellFormed.{IsWellFormed}
 use Rattle.s3_rows.specs.declared.params.State.TheVariants as states
 use Rattle.s3_rows.specs.declared.change.Change.{Change}
 use Rattle.s3_rows.specs.Tables.{Tables}
@@ -24,13 +25,14 @@ pub record AreServed (t : Tables) : Type 0 where
 abbrev pub IsMounted : Tables → Type 0
 IsMounted t = option_map (λ p. p.state) t.params ≡ Some states.Mounted
 
--- The keeper tells tables that represent the tree, and the core has its handles and the bytes of its files.
+-- The tree is well formed, the keeper tells tables that represent it, and the core has its handles and the bytes of its files.
 pub record StandsFor {K : Type 0} (told : K → Option Told) (core : RowCore K) (whole : Tree) : Type 0 where
   pub now : Told
   pub tells : told core.keeper ≡ Some now
   pub served : AreServed now.tables
   pub mounted : IsMounted now.tables
   pub represents : Represents now.tables whole
+  pub well : IsWellFormed whole
   pub handles : HasHandles core.handles whole
   pub bytes : HasBytes core.files whole
 

@@ -10,9 +10,9 @@ returns-in-Ok-clause-plan g c =
     let told = g.K.Keeper.told c.args.keeper.now in
     if_ok _ _ (λ p own.
     IfTold-weaker4 told _ _ _ _ _
-    (λ t row taken params planned v unique whole pass same has.
+    (λ t row taken params planned v unique whole pass same well has.
     let place = c.in-Ok.ensures.placed t whole c.args.parent c.args.name.now v same row (taken v unique) params (c.is_full.ensures ∙ ap (nat_le (2 ^ 62)) (sym has.0)) in
-    planned v unique whole pass c.args.parent same has place.0 place.1)
+    planned v unique whole pass c.args.parent same well has place.0 place.1)
     c.in_ok-found.ensures.row (IfTold-same told _ _ c.in_ok-found.ensures.same c.in_ok-taken.ensures.found)
     (IfTold-same told _ _ (c.in_ok-taken.ensures.same ∙ c.in_ok-found.ensures.same) c.in_ok-params.ensures.row)
     (IfTold-same told _ _ (c.in_ok-params.ensures.same ∙ c.in_ok-taken.ensures.same ∙ c.in_ok-found.ensures.same) own))
@@ -22,7 +22,7 @@ pub returns-in-Err-check_place-clause-plan : goal.returns-in-Err-check_place-cla
 returns-in-Err-check_place-clause-plan g c =
     let told = g.K.Keeper.told c.args.keeper.now in
     IfTold-weaker3 told _ _ _ _
-    (λ t row taken params v unique whole pass same has.
+    (λ t row taken params v unique whole pass same well has.
     refused_place t whole pass c.args.parent c.args.new.now.mode c.args.new.now.uid c.args.new.now.gid c.args.new.now.now c.args.name.now _ c.in_default.ensures c.in_default-check_mode.ensures
     (c.in-Err-check_place.ensures.placed t whole c.args.parent c.args.name.now v same row (taken v unique) params (c.is_full.ensures ∙ ap (nat_le (2 ^ 62)) (sym has.0))))
     c.in_ok-found.ensures.row (IfTold-same told _ _ c.in_ok-found.ensures.same c.in_ok-taken.ensures.found)

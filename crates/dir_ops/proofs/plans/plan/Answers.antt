@@ -9,6 +9,6 @@ pub returns-clause-plan : goal.returns-clause-plan
 returns-clause-plan g c =
     if_ok _ _ (λ p own.
     IfTold-weaker (g.K.Keeper.told c.args.keeper.now) _ _
-    (λ t planned v unique whole same has. subst (λ (op : Op). IsPlanOf t whole c.args.pass op c.args.now p) (sym c.in-Create.is) (planned v unique whole c.args.pass same has))
+    (λ t planned v unique whole same well has. subst (λ (op : Op). IsPlanOf t whole c.args.pass op c.args.now p) (sym c.in-Create.is) (planned v unique whole c.args.pass same well has))
     own)
     c.plan_create.result c.plan_create.ensures.plan
