@@ -18,11 +18,12 @@ use Rattle.s3_rows.specs.Selections.{inode_at}
 use Rattle.s3_rows.specs.Counts.{listed_inode_count}
 use Rattle.s3_rows.specs.Validity.{IsValid, HasUniqueNames, has_inode, is_directory}
 use Rattle.row_lemmas.proofs.Tests.{find_passes_all, is_eq-nat_cmp}
-use Rattle.row_lemmas.proofs.Keyed.Put.{length-put_new, list_all-put, row_at-put_other}
+use Rattle.row_lemmas.proofs.Keyed.Put.{length-put_new, list_all-put, row_at-put_other, row_at-put_same}
 use Rattle.row_lemmas.proofs.Tables.{tables_after-tables_after}
 use Rattle.tree_rows.specs.Premises.{fits_kind}
 use Rattle.tree_rows.specs.Shapes.{TreeShape, shape_of_node, node_of_row, Represents}
 use Rattle.tree_rows.proofs.Listed.{is_entry}
+use Rattle.tree_rows.proofs.Whole.{number_of}
 use Rattle.tree_rows.proofs.Validity.Tables.{IsValid_from_tree}
 use Rattle.ref_counts.specs.Names.{Raised, raised}
 use Rattle.ref_counts.specs.Plans.{IsStep, AreNamed, next_inode_of, next_name_of, settings}
@@ -166,3 +167,20 @@ module _ (t : Tables) (whole : Tree) (p : Parameters) (d new : Inode) (node : No
       → IsStep t (tables_after (creation p d more new now) t) (add_entry d.id name whole.next_inode now (with_node node whole)) 1
   made_step well =
       subst (λ (u : Tables). IsStep t u (add_entry d.id name whole.next_inode now (with_node node whole)) 1) (sym creation_is) (step_after well)
+
+-- the new row is found after them all
+pub new_row_there : (t : Tables) (p : Parameters) (d new : Inode) (more : Raised) (parent now : ℕ) (name : List ℕ) → IsValid t → t.params ≡ Some p
+    → inode_at t parent ≡ Some d → new.id ≡ p.next_inode → raised (with_drawn p t) name ≡ Some more
+    → inode_at (tables_after (creation p d more new now) t) new.id ≡ Some new
+new_row_there t p d new more parent now name v made found id used =
+    let owes : Owes t p [] [] = Owes-IsValid t p v made in
+    let drawn_owes : Owes (with_drawn p t) (drawn p) [] [] = Owes-params t p (p.next_inode + 1) p.next_name [] [] owes (omega arith) (omega arith) in
+    let raise : IsRaise (with_drawn p t) (drawn p) [] [] more name = IsRaise-raised (with_drawn p t) (drawn p) [] [] more name drawn_owes refl used in
+    let rest : List Change =
+    changes.PutContent (record { parent = d.id; name_id = more.id; inode = new.id }) ∷ changes.PutInode new ∷ changes.PutInode (touched_row now d) ∷ [] in
+    let there : inode_at t d.id ≡ Some d = ap (inode_at t) (sym (number_of t parent d found)) ∙ found in
+    let below : IsTrue (nat_lt d.id p.next_inode) = find_passes_all (has_key by_inode d.id) (λ (r : Inode). nat_lt r.id p.next_inode) t.inodes d owes.numbers there in
+    ap (λ (u : Tables). inode_at u new.id) (sym (tables_after-tables_after more.changes rest (with_drawn p t)) ∙ ap (tables_after rest) raise.after)
+    ∙ row_at-put_other by_inode nat_cmp_total new.id (touched_row now d) (put by_inode new t.inodes)
+    (is_eq-nat_cmp new.id d.id ∙ ap (λ n. n == d.id) id ∙ apart_above d.id p.next_inode below)
+    ∙ row_at-put_same by_inode nat_cmp_total new t.inodes

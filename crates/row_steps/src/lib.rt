@@ -18,7 +18,8 @@ pub use entries::{
     unlinked_inodes_count_one_link_less,
 };
 pub use steps::{
-    new_directories_are_steps, new_files_are_steps, tables_after_operations_are_valid,
+    new_directories_are_steps, new_files_are_steps, new_rows_are_found,
+    tables_after_operations_are_valid,
 };
 pub use trees::{
     entries_are_entries, name_rows_leave_the_tree, rows_are_nodes, rows_of_no_node_leave_the_tree,

@@ -38,3 +38,10 @@ pub fn new_directories_are_steps()
         → first_failure (checks whole pass (ops.Mkdir parent name mode uid gid)) ≡ None → raised (with_drawn p t) name ≡ Some more
         → IsStep t (tables_after (creation p directory more (new_directory_row p.next_inode mode uid gid now) now) t) (effect whole pass (ops.Mkdir parent name mode uid gid) now) 1 }
 {}
+
+/// The row of a new inode is found after its batch.
+pub fn new_rows_are_found()
+    ensures { (t : Tables) (p : Parameters) (directory new : Inode) (more : Raised) (parent now : ℕ) (name : List ℕ) → IsValid t → t.params ≡ Some p
+        → inode_at t parent ≡ Some directory → new.id ≡ p.next_inode → raised (with_drawn p t) name ≡ Some more
+        → inode_at (tables_after (creation p directory more new now) t) new.id ≡ Some new }
+{}
