@@ -1,3 +1,4 @@
-pub mod Made
+pub mod NewEntry
+pub mod NewFile
 pub mod Placed
 pub mod Taken

@@ -1,14 +1,13 @@
 -- The checks of the directory in which an entry is made, from its row.
-use Rattle.std.proofs.Common.{◌≡◌, ◌^◌, ℕ, List, [], ◌∷◌, Bool, true, false, Option, None, Some, Result, Ok, Err, refl, sym, ap, ◌∙◌}
-use Rattle.std.specs.Prelude.{not, is_some, nat_le, find, option_map, IfOk}
-use Rattle.s3_base.specs.Errors.{eexist, enospc, enotdir}
+use Rattle.std.proofs.Common.{◌≡◌, ℕ, List, [], ◌∷◌, Bool, Option, None, Some, Result, Ok, Err, refl, sym, ap, ◌∙◌}
+use Rattle.std.specs.Prelude.{not, is_some, find, option_map, IfOk}
+use Rattle.s3_base.specs.Errors.{eexist, enotdir}
 use Rattle.s3_base.specs.declared.errors.Errno.{Errno}
 use Rattle.s3_base.specs.declared.node_kind.Kind.{Kind}
 use Rattle.s3_base.specs.declared.node_kind.Kind.TheVariants as kinds
 use Rattle.plain_tree.specs.Tree as tree
 use Rattle.plain_tree.specs.Tree.{Node, Tree, node_at, entry_of}
-use Rattle.plain_tree.specs.Checks.{fails_with, first_failure, free_check, node_check, directory_check, lock_check, ids_check}
-use Rattle.plain_tree.proofs.Replies.{first_check_passes, other_checks_pass}
+use Rattle.plain_tree.specs.Checks.{fails_with, first_failure, free_check}
 use Rattle.s3_rows.specs.Rows.{Inode, Content, Parameters}
 use Rattle.s3_rows.specs.Tables.{Tables}
 use Rattle.s3_rows.specs.Selections.{inode_at}
@@ -29,12 +28,6 @@ entry_alike (tree.Regular bytes) name = refl
 entry_alike (tree.Directory entries) name = refl
 entry_alike (tree.Link target) name = refl
 
--- a kind that passes is a directory
-kind_is : (kind : Kind) → fails_with enotdir (not (is_directory kind)) ≡ None → kind ≡ kinds.Directory
-kind_is kinds.Directory passes = refl
-kind_is kinds.Regular passes = absurd (cc passes)
-kind_is kinds.Link passes = absurd (cc passes)
-
 module _ (t : Tables) (whole : Tree) (v : IsValid t) (same : Represents t whole) (parent : ℕ) (name : List ℕ) where
   -- the name is free in a directory where no entry has it
   is_free : (r : Inode) → inode_at t parent ≡ Some r → r.kind ≡ kinds.Directory → free_check (node_at whole parent) name ≡ fails_with eexist (is_taken t parent name)
@@ -51,52 +44,32 @@ module _ (t : Tables) (whole : Tree) (v : IsValid t) (same : Represents t whole)
       ∙ ap (fails_with eexist) (is_some-option_map inode_of (find (is_entry t parent name) t.contents) ∙ sym (list_any-find (is_entry t parent name) t.contents))
 
   -- the checks that need the tree are those on the rows: the name is asked for where the directory is one
-  module _ (found : Option Inode) (is : found ≡ inode_at t parent) (taken : Bool) (taken_is : taken ≡ is_taken t parent name) (full : Bool) (full_is : full ≡ nat_le (2 ^ 62) whole.next_handle) (p : Parameters) (set : t.params ≡ Some p) where
-    abbrev row_checks : List (Option ℕ)
-    row_checks = row_check found ∷ directory_row_check found ∷ lock_row_check found ∷ fails_with eexist taken ∷ ids_row_check p 1 ∷ fails_with enospc full ∷ []
+  module _ (found : Option Inode) (is : found ≡ inode_at t parent) (taken : Bool) (taken_is : taken ≡ is_taken t parent name) (p : Parameters) (set : t.params ≡ Some p) where
+    abbrev checks_of : Option Inode → Option ℕ → List (Option ℕ)
+    checks_of row free = row_check row ∷ directory_row_check row ∷ lock_row_check row ∷ free ∷ ids_row_check p 1 ∷ []
 
-    pub place_checks-rows : first_failure (place_checks whole parent name) ≡ first_failure row_checks
+    pub place_checks-rows : first_failure (place_checks whole parent name) ≡ first_failure (checks_of found (fails_with eexist taken))
     place_checks-rows = by_row found is
       where
-        with_rows : (row : Option Inode) → row ≡ inode_at t parent → (free : Option ℕ)
-            → first_failure (node_check (node_at whole parent) ∷ directory_check (node_at whole parent) ∷ lock_check (node_at whole parent) ∷ free ∷ ids_check whole 1 ∷ fails_with enospc (nat_le (2 ^ 62) whole.next_handle) ∷ [])
-            ≡ first_failure (row_check row ∷ directory_row_check row ∷ lock_row_check row ∷ free ∷ ids_row_check p 1 ∷ fails_with enospc full ∷ [])
-        with_rows row own free =
+        with_rows : (row : Option Inode) → row ≡ inode_at t parent → first_failure (place_checks whole parent name) ≡ first_failure (checks_of row (free_check (node_at whole parent) name))
+        with_rows row own =
             let node = node_check-row t whole same parent ∙ ap row_check (sym own) in
             let directory = directory_check-row t whole same parent ∙ ap directory_row_check (sym own) in
             let lock = lock_check-row t whole same parent ∙ ap lock_row_check (sym own) in
-            λ i. first_failure (node i ∷ directory i ∷ lock i ∷ free ∷ ids_check-row t whole p 1 same set i ∷ fails_with enospc (sym full_is i) ∷ [])
+            λ i. first_failure (node i ∷ directory i ∷ lock i ∷ free_check (node_at whole parent) name ∷ ids_check-row t whole p 1 same set i ∷ [])
 
         by_kind : (r : Inode) → Some r ≡ inode_at t parent → (kind : Kind) → r.kind ≡ kind
-            → first_failure (row_check (Some r) ∷ fails_with enotdir (not (is_directory kind)) ∷ lock_row_check (Some r) ∷ free_check (node_at whole parent) name ∷ ids_row_check p 1 ∷ fails_with enospc full ∷ [])
-            ≡ first_failure (row_check (Some r) ∷ fails_with enotdir (not (is_directory kind)) ∷ lock_row_check (Some r) ∷ fails_with eexist taken ∷ ids_row_check p 1 ∷ fails_with enospc full ∷ [])
-        by_kind r own kinds.Directory kind = ap (λ c. first_failure (lock_row_check (Some r) ∷ c ∷ ids_row_check p 1 ∷ fails_with enospc full ∷ [])) (is_free r (sym own) kind ∙ ap (fails_with eexist) (sym taken_is))
+            → first_failure (row_check (Some r) ∷ fails_with enotdir (not (is_directory kind)) ∷ lock_row_check (Some r) ∷ free_check (node_at whole parent) name ∷ ids_row_check p 1 ∷ [])
+            ≡ first_failure (row_check (Some r) ∷ fails_with enotdir (not (is_directory kind)) ∷ lock_row_check (Some r) ∷ fails_with eexist taken ∷ ids_row_check p 1 ∷ [])
+        by_kind r own kinds.Directory kind = ap (λ c. first_failure (lock_row_check (Some r) ∷ c ∷ ids_row_check p 1 ∷ [])) (is_free r (sym own) kind ∙ ap (fails_with eexist) (sym taken_is))
         by_kind r own kinds.Regular kind = refl
         by_kind r own kinds.Link kind = refl
 
-        by_row : (row : Option Inode) → row ≡ inode_at t parent → first_failure (place_checks whole parent name)
-            ≡ first_failure (row_check row ∷ directory_row_check row ∷ lock_row_check row ∷ fails_with eexist taken ∷ ids_row_check p 1 ∷ fails_with enospc full ∷ [])
-        by_row None own = with_rows None own (free_check (node_at whole parent) name)
-        by_row (Some r) own = with_rows (Some r) own (free_check (node_at whole parent) name) ∙ by_kind r own r.kind refl
+        by_row : (row : Option Inode) → row ≡ inode_at t parent → first_failure (place_checks whole parent name) ≡ first_failure (checks_of row (fails_with eexist taken))
+        by_row None own = with_rows None own
+        by_row (Some r) own = with_rows (Some r) own ∙ by_kind r own r.kind refl
 
     pub placed : (params : Option Parameters) (result : Result (Inode × Parameters) Errno) → params ≡ t.params → IfOk result (λ place. found ≡ Some place.0) → IfOk result (λ place. params ≡ Some place.1)
-        → Checks result (first_failure row_checks) → IsPlaced t whole parent name result
-    placed params (Ok place) params_is here given own =
-        let passes : first_failure row_checks ≡ None = own in
-        let there : first_failure (directory_row_check found ∷ lock_row_check found ∷ fails_with eexist taken ∷ ids_row_check p 1 ∷ fails_with enospc full ∷ []) ≡ None = other_checks_pass (row_check found) _ passes in
-        let open_one : first_failure (lock_row_check found ∷ fails_with eexist taken ∷ ids_row_check p 1 ∷ fails_with enospc full ∷ []) ≡ None = other_checks_pass (directory_row_check found) _ there in
-        let free_one : first_failure (fails_with eexist taken ∷ ids_row_check p 1 ∷ fails_with enospc full ∷ []) ≡ None = other_checks_pass (lock_row_check found) _ open_one in
-        let folder : fails_with enotdir (not (is_directory (place.0).kind)) ≡ None = ap directory_row_check (sym here) ∙ first_check_passes (directory_row_check found) _ there in (
-          record {
-            there = sym is ∙ here;
-            kind = kind_is (place.0).kind folder;
-            free = sym taken_is ∙ not_taken taken (first_check_passes (fails_with eexist taken) _ free_one);
-            params = sym params_is ∙ given;
-          },
-          place_checks-rows ∙ passes,
-        )
-      where
-        not_taken : (b : Bool) → fails_with eexist b ≡ None → b ≡ false
-        not_taken true passes = absurd (cc passes)
-        not_taken false passes = refl
+        → Checks result (first_failure (checks_of found (fails_with eexist taken))) → IsPlaced t whole parent name result
+    placed params (Ok place) params_is here given own = (sym is ∙ here, sym params_is ∙ given, place_checks-rows ∙ own)
     placed params (Err errno) params_is here given own = place_checks-rows ∙ own

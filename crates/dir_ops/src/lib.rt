@@ -3,6 +3,8 @@
 
 mod create;
 mod entries;
+mod new_entry;
+mod places;
 mod plans;
 
 pub use plans::plan;

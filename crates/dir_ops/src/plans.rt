@@ -12,7 +12,8 @@ ghost use Rattle.ref_counts.specs.Handles.{HasHandles};
 ghost use Rattle.ref_counts.specs.Plans.{IsPlanOf, HasFitReply};
 ghost use Rattle.dir_ops.specs.Plans.{is_planned};
 
-use crate::create::{NewFile, plan_create};
+use crate::create::plan_create;
+use crate::new_entry::NewInode;
 use op_frames::Op;
 use ref_counts::{Handles, Plan};
 use s3_rows::{Keeper, KeeperFault};
@@ -48,7 +49,7 @@ pub fn plan<K: Keeper>(
             handles,
             *parent,
             name,
-            &NewFile {
+            &NewInode {
                 mode: *mode,
                 uid: *uid,
                 gid: *gid,
