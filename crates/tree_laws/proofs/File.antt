@@ -1,4 +1,5 @@
 -- The bytes of files, and operations that change one node.
 pub mod Alone
 pub mod Bytes
+pub mod Unwritten
 pub mod Written

@@ -1,8 +1,9 @@
--- What a write and a truncation do to a file.
-use Rattle.std.specs.Prelude.{◌≡◌, ℕ, ◌+◌, ◌-◌, ◌≤◌, List, ◌++◌, length, take, drop, replicate, min, Some}
+-- What a write and a truncation do to a file, and what other operations leave of it.
+use Rattle.std.specs.Prelude.{◌≡◌, ℕ, ◌+◌, ◌-◌, ◌≤◌, ◌⊎◌, List, [], ◌++◌, length, take, drop, replicate, min, Some}
 use Rattle.op_frames.specs.declared.operation.Op.TheVariants as ops
 use Rattle.op_frames.specs.declared.reply.Reply.TheVariants as replies
 use Rattle.plain_tree.specs.Tree.{Regular, Node, Handle, Tree, node_at, handle_of}
+use Rattle.plain_tree.specs.Files.{file_at}
 use Rattle.plain_tree.specs.Operations.{reply_to}
 use Rattle.tree_laws.specs.Changes.{ChangesOneNode}
 
@@ -53,3 +54,8 @@ pub record IsResized (inode size now : ℕ) (t after : Tree) : Type 0 where
   pub zeros : drop (length old) new ≡ replicate (size - length old) 0
   pub reads : ReadsAs inode new t after
   pub only : ChangesOneNode inode t after
+
+-- each file has the bytes that it had, or is new and empty, under a number that was to come
+pub record KeepsFiles (t after : Tree) : Type 0 where
+  pub next_inode : t.next_inode ≤ after.next_inode
+  pub files : (inode : ℕ) (bytes : List ℕ) → file_at after inode ≡ Some bytes → (file_at t inode ≡ Some bytes) ⊎ ((t.next_inode ≤ inode) × (bytes ≡ []))

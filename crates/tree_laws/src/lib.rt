@@ -19,7 +19,7 @@ pub use changes::changes_stay_in_one_node;
 pub use copies::{copies_are_copies, copy_is_a_copy, sides_stay_apart};
 pub use directories::{directories_stay_one_tree, orphans_stay_open_files};
 pub use entries::{entries_name_nodes, names_stay_legal, renamed_to_itself_is_as_before};
-pub use files::{truncated_is_cut, written_is_read};
+pub use files::{truncated_is_cut, unwritten_files_keep_their_bytes, written_is_read};
 pub use limits::limits_stay;
 pub use locks::{locked_entries_stay, locked_nodes_refuse, locked_nodes_stay, locked_trees_stay};
 pub use names::names_stay_in_order;

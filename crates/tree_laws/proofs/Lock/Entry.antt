@@ -157,7 +157,7 @@ lives_if t sound w keeps sweeps p folder false is =
 held_effects : (t : Tree) (pass now : ℕ) (op : Op) (p x : ℕ) (n : List ℕ) (node : Node) → Held t p x n node → Spares t p n op replies.Done → Effects t pass now op (λ after. entry_at after p n ≡ Some x)
 held_effects t pass now op p x n node held spares = record {
   same = held.names;
-  edits = λ e y fits allowed alone. (shape-edited now e alone y t).entry p n ∙ held.names;
+  edits = λ e y fits allowed alone of_op. (shape-edited now e alone y t).entry p n ∙ held.names;
   makes = λ q m new begins can.
       made t q m (built now new) now held.sound.ordered (folder_is (node_at t q) can.there can.folder) (free_is (node_at t q) m can.free) p x n (folder_of t p x n node held) held.names;
   creates = λ q m mode uid gid fits can handles.
@@ -178,7 +178,7 @@ held_effects t pass now op p x n node held spares = record {
       let dead = dead_is closed y is in
       not_alone t held.sound p (folder_of t p x n node held) (λ q m names. dead.0 q m (names ∙ ap Some same)) (λ top. dead.2 (sym same ∙ top)))
       held.names;
-  copies = λ source q m can.
+  copies = λ source q m of_trees can.
       (shape-with_copy source q m now t held.sound.ordered (folder_is (node_at t q) can.there can.folder) (free_is (node_at t q) m can.free) (below_shape t held.sound.names source).itself).old_entry p x n
       held.names;
   locks = λ y. (shape-with_lock y t).entry p n ∙ held.names;

@@ -160,23 +160,23 @@ locked_on (Some old) after (inr kept) locked node is =
 
 -- ---- the operations
 
-stays_walk : (before : Tree) (now x : ℕ) → IfThere before x (λ node. node.locked ≡ true) → Walk before now (λ a b. Stays before x a → Stays before x b)
-stays_walk before now x locked =
-    let order : Walk before now (λ a b. InOrder a → InOrder b) = order_walk before now in
+stays_walk : (before : Tree) (now x : ℕ) → IfThere before x (λ node. node.locked ≡ true) → (op : Op) → Walk before now op (λ a b. Stays before x a → Stays before x b)
+stays_walk before now x locked op =
+    let order : Walk before now op (λ a b. InOrder a → InOrder b) = order_walk before now op in
     record {
       same = λ t stays. stays;
       joined = λ a b c first second stays. second (first stays);
-      edits = λ e y t fits allowed stays.
-          stays_still before x t (change_node y (edited now e) t) stays (order.edits e y t fits allowed stays.ordered) (next_by (edited now e) (node_at t y) y t)
+      edits = λ e y t fits allowed of_op stays.
+          stays_still before x t (change_node y (edited now e) t) stays (order.edits e y t fits allowed of_op stays.ordered) (next_by (edited now e) (node_at t y) y t)
           (edit_stays before now x locked e y t allowed stays);
       removes = λ y t stays. stays_still before x t _ stays (order.removes y t stays.ordered) (omega arith) (still_removed x y t stays.ordered);
       makes = λ new t begins fits stays.
           stays_same before x t _ stays (order.makes new t begins fits stays.ordered) (omega arith) (lookup-insert_entry_next x 0 t.nodes t.next_inode (built now new) stays.ordered stays.fits);
       opens = λ handle t fits stays. stays_same before x t _ stays stays.ordered (omega arith) refl;
       closes = λ number t stays. stays_same before x t _ stays stays.ordered (omega arith) refl;
-      copies = λ source t fits stays.
+      copies = λ source t of_trees fits stays.
           let order_of : List ℕ = at_and_below t source in
-          stays_same before x t _ stays (order.copies source t fits stays.ordered) (omega arith)
+          stays_same before x t _ stays (order.copies source t of_trees fits stays.ordered) (omega arith)
           (lookup-append_before (is_at (nat_cmp x)) t.nodes (copies t order_of now order_of) (lookup_none_below x t.next_inode (copies t order_of now order_of) (t.next_inode + length order_of) (copies_ascend t source now) stays.fits));
       locks = λ y t stays.
           stays_still before x t _ stays (order.locks y t stays.ordered) (omega arith)

@@ -137,16 +137,16 @@ each-change_node good f keeps inode t each = changed good f keeps (node_at t ino
 pub each-settled : (good : Node → Type 0) (inode : ℕ) (t : Tree) → Each good t.nodes → Each good (settled inode t).nodes
 each-settled good inode t each = cond_both (lives t inode) t (without_node inode t) (λ (after : Tree). Each good after.nodes) (λ is. each) (λ is. each-remove_entry (λ inode node. good node) (is_at (nat_cmp inode)) t.nodes each)
 
-each_walk : (good : Node → Type 0) (now : ℕ) → Keeps now good → (before : Tree) → Walk before now (λ a b. Each good a.nodes → Each good b.nodes)
-each_walk good now keeps before = record {
+each_walk : (good : Node → Type 0) (now : ℕ) → Keeps now good → (before : Tree) (op : Op) → Walk before now op (λ a b. Each good a.nodes → Each good b.nodes)
+each_walk good now keeps before op = record {
   same = λ t each. each;
   joined = λ a b c first second each. second (first each);
-  edits = λ e x t fits allowed each. each-change_node good (edited now e) (keeps.edits e fits) x t each;
+  edits = λ e x t fits allowed of_op each. each-change_node good (edited now e) (keeps.edits e fits) x t each;
   removes = λ x t each. each-remove_entry (λ inode node. good node) (is_at (nat_cmp x)) t.nodes each;
   makes = λ new t begins fits each. each-insert_entry (λ inode node. good node) nat_cmp t.next_inode (built now new) (keeps.makes new begins) (λ inode node sound. keeps.makes new begins) t.nodes each;
   opens = λ handle t fits each. each;
   closes = λ number t each. each;
-  copies = λ source t fits each.
+  copies = λ source t of_trees fits each.
       let order : List ℕ = at_and_below t source in
       each-append good t.nodes (copies t order now order) each (each-copies good now keeps t order order each);
   locks = λ x t each. each-lock good now keeps (at_and_below t x) t.nodes each;

@@ -179,16 +179,16 @@ bounded_by : (f : Node → Node) (found : Option Node) (x : ℕ) (t : Tree) → 
 bounded_by f None x t bounded = bounded
 bounded_by f (Some node) x t bounded = record { inode = bounded.inode; handle = bounded.handle }
 
-bounded_walk : (before : Tree) (now : ℕ) → Walk before now (λ a b. Bounded a → Bounded b)
-bounded_walk before now = record {
+bounded_walk : (before : Tree) (now : ℕ) (op : Op) → Walk before now op (λ a b. Bounded a → Bounded b)
+bounded_walk before now op = record {
   same = λ t bounded. bounded;
   joined = λ a b c first second bounded. second (first bounded);
-  edits = λ e x t fits allowed bounded. bounded_by (edited now e) (node_at t x) x t bounded;
+  edits = λ e x t fits allowed of_op bounded. bounded_by (edited now e) (node_at t x) x t bounded;
   removes = λ x t bounded. record { inode = bounded.inode; handle = bounded.handle };
   makes = λ new t begins fits bounded. record { inode = fits; handle = bounded.handle };
   opens = λ handle t fits bounded. record { inode = bounded.inode; handle = fits };
   closes = λ number t bounded. record { inode = bounded.inode; handle = bounded.handle };
-  copies = λ source t fits bounded. record { inode = fits; handle = bounded.handle };
+  copies = λ source t of_trees fits bounded. record { inode = fits; handle = bounded.handle };
   locks = λ x t bounded. record { inode = bounded.inode; handle = bounded.handle };
   uproots = λ below t bounded. record { inode = bounded.inode; handle = bounded.handle };
   leaves = λ pass t bounded. record { inode = bounded.inode; handle = bounded.handle };

@@ -9,6 +9,7 @@ use Rattle.std.specs.Map.{keys_of}
 use Rattle.std.specs.Ordering.{nat_cmp}
 use Rattle.std.specs.Prelude.{◌==◌, not, length, map, All}
 use Rattle.op_frames.specs.declared.operation.Op.{Op}
+use Rattle.op_frames.specs.declared.operation.Op.TheVariants as ops
 use Rattle.plain_tree.specs.Below.{is_among, at_and_below}
 use Rattle.plain_tree.specs.Entries.{settled, lives}
 use Rattle.plain_tree.specs.Numbers.{Ascend, InOrder, HandlesInOrder}
@@ -61,23 +62,23 @@ locked inode t ordered = subst (λ keys. Ascend 0 keys t.next_inode) (sym (locke
 
 -- ---- the operations
 
-pub order_walk : (before : Tree) (now : ℕ) → Walk before now (λ a b. InOrder a → InOrder b)
-order_walk before now = record {
+pub order_walk : (before : Tree) (now : ℕ) (op : Op) → Walk before now op (λ a b. InOrder a → InOrder b)
+order_walk before now op = record {
   same = λ t ordered. ordered;
   joined = λ a b c first second ordered. second (first ordered);
-  edits = λ e x t fits allowed. InOrder-change_node (edited now e) x t;
+  edits = λ e x t fits allowed of_op. InOrder-change_node (edited now e) x t;
   removes = InOrder-without_node;
   makes = λ new t begins fits. InOrder-with_node (built now new) t;
   opens = λ handle t fits ordered. ordered;
   closes = λ number t ordered. ordered;
-  copies = λ source t fits. copied source now t;
+  copies = λ source t of_trees fits. copied source now t;
   locks = locked;
   uproots = λ below t ordered. Ascend-filter_map (left_over (without_directories below t) below now) (left_over_key below (without_directories below t) now) 0 t.nodes t.next_inode ordered;
   leaves = λ pass t ordered. Ascend-filter 0 (λ (e : ℕ × Node). lives (record t { handles = filter (λ h. not (h.1.pass == pass)) t.handles }) e.0) t.nodes t.next_inode ordered;
 }
 
 pub InOrder-settled : (x : ℕ) (t : Tree) → InOrder t → InOrder (settled x t)
-InOrder-settled x t ordered = walk-settled t 0 (λ a b. InOrder a → InOrder b) (order_walk t 0) x t ordered
+InOrder-settled x t ordered = walk-settled t 0 ops.Leave (λ a b. InOrder a → InOrder b) (order_walk t 0 ops.Leave) x t ordered
 
 pub InOrder-tree_after : (t : Tree) (pass now : ℕ) (op : Op) → InOrder t → InOrder (tree_after t pass op now)
 InOrder-tree_after t pass now op ordered = walk-tree_after t pass now (λ a b. InOrder a → InOrder b) (order_walk t now) op ordered
@@ -88,16 +89,16 @@ handles_changed : (f : Node → Node) (found : Option Node) (x : ℕ) (t : Tree)
 handles_changed f None x t ordered = ordered
 handles_changed f (Some node) x t ordered = ordered
 
-handles_walk : (before : Tree) (now : ℕ) → Walk before now (λ a b. HandlesInOrder a → HandlesInOrder b)
-handles_walk before now = record {
+handles_walk : (before : Tree) (now : ℕ) (op : Op) → Walk before now op (λ a b. HandlesInOrder a → HandlesInOrder b)
+handles_walk before now op = record {
   same = λ t ordered. ordered;
   joined = λ a b c first second ordered. second (first ordered);
-  edits = λ e x t fits allowed. handles_changed (edited now e) (node_at t x) x t;
+  edits = λ e x t fits allowed of_op. handles_changed (edited now e) (node_at t x) x t;
   removes = λ x t ordered. ordered;
   makes = λ new t begins fits ordered. ordered;
   opens = λ handle t fits ordered. Ascend-insert_entry 0 t.handles t.next_handle handle ordered;
   closes = λ number t ordered. Ascend-remove_entry 0 (is_at (nat_cmp number)) t.handles t.next_handle ordered;
-  copies = λ source t fits ordered. ordered;
+  copies = λ source t of_trees fits ordered. ordered;
   locks = λ x t ordered. ordered;
   uproots = λ below t ordered. ordered;
   leaves = λ pass t ordered. Ascend-filter 0 (λ (h : ℕ × Handle). not (h.1.pass == pass)) t.handles t.next_handle ordered;

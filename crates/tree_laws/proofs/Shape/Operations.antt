@@ -54,7 +54,7 @@ new_has_no_entry now (Symlink target uid gid) m = refl
 grown_effects : (t : Tree) (pass now : ℕ) (op : Op) → Sound t → Effects t pass now op (λ after. Grown NoneGoes (shape_of after))
 grown_effects t pass now op sound = record {
   same = sound.grown;
-  edits = λ e x fits allowed spares. Grown-same NoneGoes (shape_of t) (shape_of (change_node x (edited now e) t)) (shape-edited now e spares x t) sound.grown;
+  edits = λ e x fits allowed spares of_op. Grown-same NoneGoes (shape_of t) (shape_of (change_node x (edited now e) t)) (shape-edited now e spares x t) sound.grown;
   makes = λ p n new begins can. Grown-with_new_node t now sound p n (built now new) (new_has_no_entry now new) can;
   creates = λ p n mode uid gid fits can handles. Grown-with_new_file t now sound pass p n mode uid gid can;
   links = Grown-link t now sound;
@@ -63,7 +63,7 @@ grown_effects t pass now op sound = record {
   moves = λ p n np nn can. Grown-moved_entry t p n np nn now sound can;
   opens = λ x there file handles. Grown-open t now sound x pass there file;
   closes = λ number opened. Grown-release t now sound pass number opened;
-  copies = Grown-with_copy t now sound;
+  copies = λ source p n of_trees can. Grown-with_copy t now sound source p n can;
   locks = λ x. Grown-same NoneGoes (shape_of t) (shape_of (with_lock x t)) (shape-with_lock x t) sound.grown;
   uproots = λ p n is can. Grown-without_tree t now sound p n can;
   leaves = Grown-swept (shape_of t) (shape_of (without_pass pass t)) (lives (record t { handles = filter (λ h. not (h.1.pass == pass)) t.handles })) (shape-without_pass pass t sound.ordered sound.names) sound.grown;

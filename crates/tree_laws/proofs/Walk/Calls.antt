@@ -2,6 +2,7 @@
 use Rattle.std.proofs.Common.{◌∙◌, ◌≡◌, ℕ, List, [], ◌∷◌, Option, None, Some, refl, sym, subst}
 use Rattle.op_frames.specs.Replay.{Request}
 use Rattle.op_frames.specs.declared.operation.Op.{Op}
+use Rattle.op_frames.specs.declared.operation.Op.TheVariants as ops
 use Rattle.op_frames.specs.declared.reply.Reply.TheVariants as replies
 use Rattle.s3_base.specs.declared.errors.Errno.{Errno}
 use Rattle.plain_tree.specs.Calls.{tree_after_all}
@@ -25,15 +26,15 @@ pub effects-tree_after : (t : Tree) (pass now : ℕ) (op : Op) (P : Tree → Typ
 effects-tree_after t pass now op P effects = after_call P t pass now op effects.same (λ passes. effects-effect t pass now op P effects passes)
 
 -- what relates the trees of each primitive change relates those of a call
-pub walk-tree_after : (t : Tree) (pass now : ℕ) (R : Tree → Tree → Type 0) → Walk t now R → (op : Op) → R t (tree_after t pass op now)
-walk-tree_after t pass now R walk op = effects-tree_after t pass now op (R t) (effects_by_walk t pass now op R walk)
+pub walk-tree_after : (t : Tree) (pass now : ℕ) (R : Tree → Tree → Type 0) → ((op : Op) → Walk t now op R) → (op : Op) → R t (tree_after t pass op now)
+walk-tree_after t pass now R walk op = effects-tree_after t pass now op (R t) (effects_by_walk t pass now op R (walk op))
 
 -- and those of a list of calls
-pub walk-tree_after_all : (R : Tree → Tree → Type 0) → ((t : Tree) (now : ℕ) → Walk t now R) → (t : Tree) (calls : List Request) → R t (tree_after_all t calls)
-walk-tree_after_all R walk t [] = (walk t 0).same t
+pub walk-tree_after_all : (R : Tree → Tree → Type 0) → ((t : Tree) (now : ℕ) (op : Op) → Walk t now op R) → (t : Tree) (calls : List Request) → R t (tree_after_all t calls)
+walk-tree_after_all R walk t [] = (walk t 0 ops.Leave).same t
 walk-tree_after_all R walk t (call ∷ calls) =
     let next : Tree = tree_after t call.pass call.op call.now in
-    (walk t call.now).joined t next (tree_after_all next calls) (walk-tree_after t call.pass call.now R (walk t call.now) call.op) (walk-tree_after_all R walk next calls)
+    (walk t call.now call.op).joined t next (tree_after_all next calls) (walk-tree_after t call.pass call.now R (walk t call.now) call.op) (walk-tree_after_all R walk next calls)
 
 -- what every call keeps holds after any calls
 pub kept-tree_after_all : (P : Tree → Type 0) → ((t : Tree) (pass now : ℕ) (op : Op) → P t → P (tree_after t pass op now)) → (t : Tree) (calls : List Request) → P t → P (tree_after_all t calls)

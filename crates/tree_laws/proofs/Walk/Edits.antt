@@ -1,5 +1,7 @@
 -- What operations write into a node, and the nodes that they make, as values.
 use Rattle.std.proofs.Common.{◌≡◌, ◌≤◌, ◌<◌, ℕ, ◌+◌, ◌^◌, List, None, length}
+use Rattle.op_frames.specs.declared.operation.Op.{Op}
+use Rattle.plain_tree.specs.Classes.{Bytes, class_of}
 use Rattle.plain_tree.specs.Checks.{name_check, attribute_name_check, value_check, target_check, lock_check}
 use Rattle.plain_tree.specs.Entries.{unnamed}
 use Rattle.plain_tree.specs.Files.{with_bytes, written_at, resized}
@@ -47,6 +49,12 @@ Fits e = Unit {0}
 abbrev pub IsAllowed : Tree → ℕ → Edit → Type 0
 IsAllowed t inode Stamp = Unit {0}
 IsAllowed t inode e = lock_check (node_at t inode) ≡ None
+
+-- an operation writes it: bytes into files, if it works on the bytes of one file
+abbrev pub IsOf : Op → Edit → Type 0
+IsOf op (Resize size) = class_of op ≡ Bytes
+IsOf op (Write offset bytes) = class_of op ≡ Bytes
+IsOf op e = Unit {0}
 
 -- it leaves the entries alone
 abbrev pub SparesEntries : Edit → Type 0
