@@ -1,12 +1,12 @@
--- What one more entry or attribute of a name makes of the tables.
-use Rattle.std.specs.Prelude.{◌≡◌, ℕ, ◌+◌, ◌^◌, ◌==◌, List, [], ◌∷◌, ◌++◌, nat_lt, Option, None, Some, if◌then◌else◌}
+-- What one more entry or attribute of a name makes of the tables, and what one less does.
+use Rattle.std.specs.Prelude.{◌≡◌, ℕ, ◌+◌, ◌-◌, ◌^◌, ◌==◌, List, [], ◌∷◌, ◌++◌, nat_lt, Option, None, Some, if◌then◌else◌}
 use Rattle.std.specs.Ordering.{is_eq}
 use Rattle.s3_rows.specs.declared.change.Change.{Change}
 use Rattle.s3_rows.specs.declared.change.Change.TheVariants as changes
 use Rattle.s3_rows.specs.Rows.{Name, Parameters}
 use Rattle.s3_rows.specs.Tables.{Tables}
 use Rattle.s3_rows.specs.Batches.{after_change}
-use Rattle.s3_rows.specs.Selections.{name_of_bytes, bytes_cmp}
+use Rattle.s3_rows.specs.Selections.{name_at, name_of_bytes, bytes_cmp}
 use Rattle.s3_rows.specs.Validity.{HasUniqueNames}
 
 -- the id of a name that is used once more, and the changes that say so
@@ -58,3 +58,17 @@ after_put r bytes found = if is_eq (bytes_cmp r.name bytes) then Some r else oth
 abbrev pub IsRaised : Option Raised → List Change → Option ℕ → List Change → Type 0
 IsRaised None before answer now = (answer ≡ None) × (now ≡ before)
 IsRaised (Some r) before answer now = (answer ≡ Some r.id) × (now ≡ before ++ r.changes)
+
+-- ---- one use less
+
+-- its count is one less, or its row goes
+abbrev pub lowered : Name → List Change
+lowered n = if n.refcount == 1 then changes.DeleteName n.id ∷ [] else changes.PutName (record n { refcount = n.refcount - 1 }) ∷ []
+
+abbrev pub lowered_of : Option Name → List Change
+lowered_of None = []
+lowered_of (Some n) = lowered n
+
+-- one use less of a name in these tables; nothing where it has no row
+abbrev pub lowered_at : Tables → ℕ → List Change
+lowered_at t id = lowered_of (name_at t id)

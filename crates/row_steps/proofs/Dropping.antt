@@ -1,5 +1,5 @@
 -- An entry that goes: it is deleted, its directory is touched, and its name is used once less. An attribute alike.
-use Rattle.std.proofs.Common.{◌≡◌, ℕ, ◌+◌, List, [], ◌∷◌, false, Option, None, Some, refl, sym, ap, ◌∙◌, subst}
+use Rattle.std.proofs.Common.{◌≡◌, ℕ, ◌+◌, List, [], ◌∷◌, false, Option, Some, refl, sym, ap, ◌∙◌, subst}
 use Rattle.std.specs.Prelude.{◌==◌, is_some, option_map, unwrap_or}
 use Rattle.std.specs.Cmp.{nat_cmp_total}
 use Rattle.s3_base.specs.Numbers.{root}
@@ -16,20 +16,21 @@ use Rattle.s3_rows.specs.Validity.{HasUniqueNames}
 use Rattle.row_lemmas.proofs.Tests.{find_passes, is_eq-nat_cmp}
 use Rattle.row_lemmas.proofs.Keyed.Put.{row_at-put_other}
 use Rattle.tree_rows.proofs.Replaced.{replaced_represents}
-use Rattle.tree_rows.specs.Shapes.{Represents}
+use Rattle.tree_rows.specs.Shapes.{node_of_row, Represents}
+use Rattle.ref_counts.specs.Names.{lowered}
 use Rattle.row_steps.specs.Owed.{Owes}
-use Rattle.row_steps.specs.RowChanges.{counted_row, dropping, dropping_attr, lowered, touched_row}
+use Rattle.row_steps.specs.RowChanges.{counted_row, dropping, dropping_attr, touched_row}
 use Rattle.row_steps.proofs.Owed.Attrs.{Owes-without_attr}
 use Rattle.row_steps.proofs.Owed.Contents.{Owes-without_content}
 use Rattle.row_steps.proofs.Owed.Inodes.{Owes-put_inode_less, Owes-put_inode_same, one_number}
 use Rattle.row_steps.proofs.Owed.Lowered.{IsLower, IsLower-lowered}
-use Rattle.row_steps.proofs.Shape.Absent.{Represents-without_attr_absent}
+use Rattle.row_steps.proofs.Shape.Absent.{node_of_row-without_attr_other}
 use Rattle.row_steps.proofs.Shape.Deletes.{Represents-without_content}
 
 module _ (t : Tables) (p : Parameters) (d : Inode) (c : Content) (n : Name) (now : ℕ) (links uses : List ℕ) (o : Owes t p links uses)
     (there : inode_at t d.id ≡ Some d) (parent : d.id ≡ c.parent) (entry : entry_at t c.parent c.name_id ≡ Some c) (named : name_at t c.name_id ≡ Some n)
     (not_root : (c.inode == root) ≡ false) where
-  abbrev touched : Tables
+  abbrev pub touched : Tables
   touched = record t { contents = without by_entry (c.parent, c.name_id) t.contents; inodes = put by_inode (touched_row now d) t.inodes }
 
   id_is : c.name_id ≡ n.id
@@ -41,7 +42,7 @@ module _ (t : Tables) (p : Parameters) (d : Inode) (c : Content) (n : Name) (now
       (Owes-put_inode_same (record t { contents = without by_entry (c.parent, c.name_id) t.contents }) p d (touched_row now d) (c.inode ∷ links) (c.name_id ∷ uses)
       (Owes-without_content t p c links uses o entry not_root) there refl refl refl)
 
-  lower : IsLower touched p (c.inode ∷ links) uses (lowered n)
+  pub lower : IsLower touched p (c.inode ∷ links) uses (lowered n)
   lower = IsLower-lowered touched p n (c.inode ∷ links) uses owes_both (ap (name_at t) (sym id_is) ∙ named)
 
   -- the link of the entry is owed
@@ -66,7 +67,7 @@ module _ (t : Tables) (p : Parameters) (d : Inode) (c : Content) (n : Name) (now
     abbrev stamped_row : Inode
     stamped_row = counted_row count now r
 
-    still_there : inode_at (tables_after (dropping d c n now) t) r.id ≡ Some r
+    pub still_there : inode_at (tables_after (dropping d c n now) t) r.id ≡ Some r
     still_there =
         ap (λ (u : Tables). inode_at u r.id) lower.after
         ∙ row_at-put_other by_inode nat_cmp_total r.id (touched_row now d) t.inodes (is_eq-nat_cmp r.id d.id ∙ apart) ∙ child_there
@@ -92,7 +93,7 @@ module _ (t : Tables) (p : Parameters) (a : Attr) (n : Name) (links uses : List 
   attr_id_is : a.name_id ≡ n.id
   attr_id_is = one_number a.name_id n.id (find_passes (has_key by_name a.name_id) t.names n named)
 
-  lower_attr : IsLower without_attr p links uses (lowered n)
+  pub lower_attr : IsLower without_attr p links uses (lowered n)
   lower_attr =
       IsLower-lowered without_attr p n links uses
       (subst (λ id. Owes without_attr p links (id ∷ uses)) attr_id_is (Owes-without_attr t p a links uses o there)) (ap (name_at t) (sym attr_id_is) ∙ named)
@@ -100,11 +101,10 @@ module _ (t : Tables) (p : Parameters) (a : Attr) (n : Name) (links uses : List 
   pub Owes-dropping_attr : Owes (tables_after (dropping_attr a n) t) p links uses
   Owes-dropping_attr = subst (λ (u : Tables). Owes u p links uses) (sym lower_attr.after) lower_attr.owes
 
-  -- where the inode is gone already
-  pub Represents-dropping_attr : (whole : Tree) → inode_at t a.inode ≡ None → Represents t whole → Represents (tables_after (dropping_attr a n) t) whole
-  Represents-dropping_attr whole none same =
-      subst (λ (u : Tables). Represents u whole) (sym lower_attr.after)
-      (lower_attr.represents whole (Represents-without_attr_absent t whole a.inode a.name_id none same))
+  -- the nodes of other inodes stay
+  pub node_of_row-dropping_attr : (x : Inode) → (x.id == a.inode) ≡ false → node_of_row (tables_after (dropping_attr a n) t) x ≡ node_of_row t x
+  node_of_row-dropping_attr x apart =
+      ap (λ (u : Tables). node_of_row u x) lower_attr.after ∙ lower_attr.nodes x ∙ node_of_row-without_attr_other t a.inode a.name_id x apart
 
   pub HasUniqueNames-dropping_attr : HasUniqueNames t → HasUniqueNames (tables_after (dropping_attr a n) t)
   HasUniqueNames-dropping_attr unique = subst (λ (u : Tables). HasUniqueNames u) (sym lower_attr.after) (lower_attr.unique unique)

@@ -1,7 +1,12 @@
 pub mod Dropping
 pub mod Entering
+pub mod Leaving
+pub mod Less
+pub mod Living
 pub mod Making
 pub mod NewNodes
+pub mod OldNodes
 pub mod Owed
 pub mod Place
+pub mod Removing
 pub mod Shape

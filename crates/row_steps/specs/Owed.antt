@@ -51,3 +51,9 @@ pub record HasNothing (t : Tables) (id : ℕ) : Type 0 where
   pub targets : IsTrue (list_all (λ (r : Target). not (r.inode == id)) t.targets)
   pub attrs : IsTrue (list_all (λ (r : Attr). not (r.inode == id)) t.attrs)
   pub slots : IsTrue (list_all (λ (r : Slot). not (r.inode == id)) t.slots)
+
+-- no entry is in it, and no block or slot is of it
+pub record IsBare (t : Tables) (id : ℕ) : Type 0 where
+  pub entries : IsTrue (list_all (λ (r : Content). not (r.parent == id)) t.contents)
+  pub inode_blocks : IsTrue (list_all (λ (r : InodeBlock). not (r.inode == id)) t.inode_blocks)
+  pub slots : IsTrue (list_all (λ (r : Slot). not (r.inode == id)) t.slots)

@@ -1,12 +1,12 @@
 -- The changes of rows that operations are made of.
-use Rattle.std.specs.Prelude.{ℕ, ◌+◌, ◌-◌, ◌==◌, List, [], ◌∷◌, ◌++◌, false, if◌then◌else◌}
+use Rattle.std.specs.Prelude.{ℕ, ◌+◌, List, [], ◌∷◌, ◌++◌, false}
 use Rattle.s3_base.specs.declared.node_kind.Kind.TheVariants as kinds
 use Rattle.s3_rows.specs.declared.change.Change.{Change}
 use Rattle.s3_rows.specs.declared.change.Change.TheVariants as changes
 use Rattle.s3_rows.specs.Rows.{Inode, Name, Content, Attr, Parameters}
 use Rattle.s3_rows.specs.Tables.{Tables}
 use Rattle.s3_rows.specs.Batches.{after_change}
-use Rattle.ref_counts.specs.Names.{Raised}
+use Rattle.ref_counts.specs.Names.{Raised, lowered}
 
 -- both times set
 abbrev pub touched_row : ℕ → Inode → Inode
@@ -37,10 +37,6 @@ new_file_row id mode uid gid now = record {
 -- and of an empty directory
 abbrev pub new_directory_row : ℕ → ℕ → ℕ → ℕ → ℕ → Inode
 new_directory_row id mode uid gid now = record (new_file_row id mode uid gid now) { kind = kinds.Directory }
-
--- a name that is used once less: its count is one less, or its row goes
-abbrev pub lowered : Name → List Change
-lowered n = if n.refcount == 1 then changes.DeleteName n.id ∷ [] else changes.PutName (record n { refcount = n.refcount - 1 }) ∷ []
 
 -- A number is drawn and the name used once more; the entry names the new inode, and the directory is touched.
 abbrev pub creation : Parameters → Inode → Raised → Inode → ℕ → List Change

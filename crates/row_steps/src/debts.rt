@@ -10,9 +10,9 @@ ghost use Rattle.s3_rows.specs.Counts.{listed_inode_count};
 ghost use Rattle.s3_rows.specs.Selections.{inode_at, name_at, entry_at, attr_at, bytes_of_name};
 ghost use Rattle.s3_rows.specs.Validity.{IsValid, finds_of_attr};
 ghost use Rattle.tree_rows.specs.Premises.{HasPremises, finds_directory_and_name, fits_kind};
-ghost use Rattle.ref_counts.specs.Names.{Raised, raised};
+ghost use Rattle.ref_counts.specs.Names.{Raised, lowered, raised};
 ghost use Rattle.row_steps.specs.Owed.{HasNothing, Owes, has_entry, times};
-ghost use Rattle.row_steps.specs.RowChanges.{drawn, lowered};
+ghost use Rattle.row_steps.specs.RowChanges.{drawn};
 
 /// Valid tables owe nothing.
 pub fn valid_tables_owe_nothing()

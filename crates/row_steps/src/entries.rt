@@ -1,8 +1,8 @@
-ghost use Rattle.std.specs.Prelude.{◌≡◌, ℕ, ◌+◌, ◌==◌, List, ◌∷◌, false, nat_lt, IsTrue, None, Some};
+ghost use Rattle.std.specs.Prelude.{◌≡◌, ℕ, ◌+◌, ◌==◌, List, ◌∷◌, false, nat_lt, IsTrue, Some};
 ghost use Rattle.std.specs.List.{list_all};
 ghost use Rattle.s3_base.specs.Numbers.{root};
 ghost use Rattle.s3_base.specs.declared.node_kind.Kind.TheVariants as kinds;
-ghost use Rattle.plain_tree.specs.Tree.{Tree, change_node, stamped};
+ghost use Rattle.plain_tree.specs.Tree.{Tree, change_node, stamped, without_node};
 ghost use Rattle.plain_tree.specs.Entries.{add_entry, drop_entry};
 ghost use Rattle.s3_rows.specs.declared.change.Change.TheVariants as changes;
 ghost use Rattle.s3_rows.specs.Rows.{Inode, Name, Content, Attr, Parameters};
@@ -10,9 +10,10 @@ ghost use Rattle.s3_rows.specs.Tables.{Tables};
 ghost use Rattle.s3_rows.specs.Batches.{after_change, tables_after};
 ghost use Rattle.s3_rows.specs.Selections.{inode_at, name_at, entry_at, attr_at};
 ghost use Rattle.s3_rows.specs.Validity.{HasUniqueNames};
-ghost use Rattle.tree_rows.specs.Shapes.{Represents};
+ghost use Rattle.tree_rows.specs.Shapes.{node_of_row, Represents};
 ghost use Rattle.ref_counts.specs.Names.{Raised, raised};
-ghost use Rattle.row_steps.specs.Owed.{Owes, has_entry};
+ghost use Rattle.ref_counts.specs.Removals.{attrs_of, removal};
+ghost use Rattle.row_steps.specs.Owed.{IsBare, Owes, has_entry, times};
 ghost use Rattle.row_steps.specs.RowChanges.{counted_row, dropping, dropping_attr, entering};
 
 /// An entry that goes, with the use of its name, owes the link of its inode, and is one less of the tree.
@@ -47,13 +48,12 @@ pub fn entries_that_come_are_owed_links()
         → IsTrue (nat_lt inode p.next_inode) → HasUniqueNames t → HasUniqueNames (tables_after (entering directory more inode now) t) }
 {}
 
-/// An attribute that goes, with the use of its name, owes nothing, and leaves the tree where its inode went before.
+/// An attribute that goes, with the use of its name, owes nothing, and the nodes of other inodes stay.
 pub fn attributes_that_go_owe_nothing()
     ensures owes { (t : Tables) (p : Parameters) (a : Attr) (n : Name) (links uses : List ℕ) → Owes t p links uses → attr_at t a.inode a.name_id ≡ Some a
         → name_at t a.name_id ≡ Some n → Owes (tables_after (dropping_attr a n) t) p links uses }
-    ensures represents { (t : Tables) (p : Parameters) (a : Attr) (n : Name) (links uses : List ℕ) → Owes t p links uses → attr_at t a.inode a.name_id ≡ Some a
-        → name_at t a.name_id ≡ Some n → (whole : Tree) → inode_at t a.inode ≡ None → Represents t whole
-        → Represents (tables_after (dropping_attr a n) t) whole }
+    ensures nodes { (t : Tables) (p : Parameters) (a : Attr) (n : Name) (links uses : List ℕ) → Owes t p links uses → attr_at t a.inode a.name_id ≡ Some a
+        → name_at t a.name_id ≡ Some n → (x : Inode) → (x.id == a.inode) ≡ false → node_of_row (tables_after (dropping_attr a n) t) x ≡ node_of_row t x }
     ensures unique { (t : Tables) (p : Parameters) (a : Attr) (n : Name) (links uses : List ℕ) → Owes t p links uses → attr_at t a.inode a.name_id ≡ Some a
         → name_at t a.name_id ≡ Some n → HasUniqueNames t → HasUniqueNames (tables_after (dropping_attr a n) t) }
 {}
@@ -70,4 +70,16 @@ pub fn unlinked_inodes_count_one_link_less()
         → count + 1 ≡ r.refcount → (whole : Tree) → directory.kind ≡ kinds.Directory → Represents t whole
         → Represents (after_change (changes.PutInode (counted_row count now r)) (tables_after (dropping directory c n now) t))
         (change_node r.id (stamped now) (drop_entry directory.id n.name now whole)) }
+{}
+
+/// An inode that goes with its attributes and its target, where no entry is in it and no block of it, owes nothing more: links
+/// that were owed to it are not; and the tree has its node less.
+pub fn inodes_that_go_owe_nothing()
+    ensures owes { (t : Tables) (p : Parameters) (r : Inode) (links uses now : List ℕ) → Owes t p links uses → inode_at t r.id ≡ Some r → IsBare t r.id
+        → ((x : ℕ) → (r.id == x) ≡ false → times x now ≡ times x links) → Owes (tables_after (removal r (attrs_of t r.id) t) t) p now uses }
+    ensures represents { (t : Tables) (p : Parameters) (r : Inode) (links uses now : List ℕ) → Owes t p links uses → inode_at t r.id ≡ Some r → IsBare t r.id
+        → ((x : ℕ) → (r.id == x) ≡ false → times x now ≡ times x links) → (whole : Tree) → Represents t whole
+        → Represents (tables_after (removal r (attrs_of t r.id) t) t) (without_node r.id whole) }
+    ensures unique { (t : Tables) (p : Parameters) (r : Inode) (links uses now : List ℕ) → Owes t p links uses → inode_at t r.id ≡ Some r → IsBare t r.id
+        → ((x : ℕ) → (r.id == x) ≡ false → times x now ≡ times x links) → HasUniqueNames t → HasUniqueNames (tables_after (removal r (attrs_of t r.id) t) t) }
 {}

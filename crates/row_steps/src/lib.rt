@@ -15,10 +15,10 @@ pub use debts::{
 };
 pub use entries::{
     attributes_that_go_owe_nothing, entries_that_come_are_owed_links, entries_that_go_owe_a_link,
-    unlinked_inodes_count_one_link_less,
+    inodes_that_go_owe_nothing, unlinked_inodes_count_one_link_less,
 };
 pub use steps::{
-    new_directories_are_steps, new_files_are_steps, new_rows_are_found,
+    new_directories_are_steps, new_files_are_steps, new_rows_are_found, old_directories_are_steps,
     tables_after_operations_are_valid,
 };
 pub use trees::{

@@ -1,20 +1,21 @@
-ghost use Rattle.std.specs.Prelude.{◌≡◌, ℕ, List, [], None, Some};
+ghost use Rattle.std.specs.Prelude.{◌≡◌, ◌++◌, ℕ, List, [], None, Some};
 ghost use Rattle.op_frames.specs.declared.operation.Op.{Op};
 ghost use Rattle.op_frames.specs.declared.operation.Op.TheVariants as ops;
 ghost use Rattle.plain_tree.specs.Tree.{Tree};
 ghost use Rattle.plain_tree.specs.Checks.{first_failure};
 ghost use Rattle.plain_tree.specs.Operations.{checks, effect};
 ghost use Rattle.plain_tree.specs.WellFormed.{IsWellFormed};
-ghost use Rattle.s3_rows.specs.Rows.{Inode, Parameters};
+ghost use Rattle.s3_rows.specs.Rows.{Content, Inode, Name, Parameters};
 ghost use Rattle.s3_rows.specs.Tables.{Tables};
 ghost use Rattle.s3_rows.specs.Batches.{tables_after};
-ghost use Rattle.s3_rows.specs.Selections.{inode_at};
+ghost use Rattle.s3_rows.specs.Selections.{entry_at, inode_at, name_of_bytes};
 ghost use Rattle.s3_rows.specs.Validity.{IsValid, HasUniqueNames};
 ghost use Rattle.tree_rows.specs.Shapes.{Represents};
 ghost use Rattle.ref_counts.specs.Names.{Raised, raised};
 ghost use Rattle.ref_counts.specs.Plans.{IsStep};
+ghost use Rattle.ref_counts.specs.Removals.{attrs_of, removal};
 ghost use Rattle.row_steps.specs.Owed.{Owes};
-ghost use Rattle.row_steps.specs.RowChanges.{creation, new_directory_row, new_file_row, with_drawn};
+ghost use Rattle.row_steps.specs.RowChanges.{creation, dropping, new_directory_row, new_file_row, with_drawn};
 
 /// Where no check of an operation on a well-formed tree fails, tables that owe nothing and represent the tree after it are valid.
 pub fn tables_after_operations_are_valid()
@@ -44,4 +45,14 @@ pub fn new_rows_are_found()
     ensures { (t : Tables) (p : Parameters) (directory new : Inode) (more : Raised) (parent now : ℕ) (name : List ℕ) → IsValid t → t.params ≡ Some p
         → inode_at t parent ≡ Some directory → new.id ≡ p.next_inode → raised (with_drawn p t) name ≡ Some more
         → inode_at (tables_after (creation p directory more new now) t) new.id ≡ Some new }
+{}
+
+/// Where no check of an Rmdir fails, its batch leaves valid tables that represent the tree without the directory.
+pub fn old_directories_are_steps()
+    ensures { (t : Tables) (whole : Tree) (p : Parameters) (directory child : Inode) (c : Content) (n : Name) (pass parent now : ℕ) (name : List ℕ)
+        → IsValid t → HasUniqueNames t → IsWellFormed whole → Represents t whole → t.params ≡ Some p → inode_at t parent ≡ Some directory
+        → name_of_bytes t name ≡ Some n → entry_at t parent n.id ≡ Some c → inode_at t c.inode ≡ Some child
+        → first_failure (checks whole pass (ops.Rmdir parent name)) ≡ None
+        → IsStep t (tables_after (dropping directory c n now ++ removal child (attrs_of t child.id) (tables_after (dropping directory c n now) t)) t)
+        (effect whole pass (ops.Rmdir parent name) now) 0 }
 {}

@@ -8,8 +8,9 @@ ghost use Rattle.s3_rows.specs.Tables.{Tables};
 ghost use Rattle.s3_rows.specs.Batches.{after_change, tables_after};
 ghost use Rattle.s3_rows.specs.Selections.{inode_at, name_at, entry_at, bytes_of_name};
 ghost use Rattle.tree_rows.specs.Shapes.{shape_of_node, node_of_row, Represents};
+ghost use Rattle.ref_counts.specs.Names.{lowered};
 ghost use Rattle.row_steps.specs.Owed.{Owes, has_entry};
-ghost use Rattle.row_steps.specs.RowChanges.{drawn, lowered, touched_row};
+ghost use Rattle.row_steps.specs.RowChanges.{drawn, touched_row};
 
 /// A row under the number that is drawn is a node more; a row that is deleted, one less; and a row in place of another is the
 /// node that a change makes of its shape.

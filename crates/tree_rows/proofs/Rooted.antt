@@ -100,7 +100,7 @@ module _ (t : Tables) (v : IsValid t) (whole : Tree) (same : Represents t whole)
       subst (λ x. IsSome (node_at whole x)) entry.2 (node_is t whole same c.inode (and_parts _ (has_inode any_kind t c.inode) found).1)
 
   -- the entry of a row
-  own_entry : (p : Content → Bool) (c : Content) → find p t.contents ≡ Some c → entry_at whole c.parent (bytes_of_name t c.name_id) ≡ Some c.inode
+  pub own_entry : (p : Content → Bool) (c : Content) → find p t.contents ≡ Some c → entry_at whole c.parent (bytes_of_name t c.name_id) ≡ Some c.inode
   own_entry p c found =
       entry_made t whole same v.rows.entries c.parent (bytes_of_name t c.name_id) c folder
       (found_one (have_one_name t) p (is_entry t c.parent (bytes_of_name t c.name_id)) t.contents c v.tree.unlike found alike itself)

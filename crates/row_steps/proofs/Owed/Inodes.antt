@@ -280,16 +280,17 @@ Owes-put_inode_less t p r new links uses o there kind size count =
 
 -- ---- a delete
 
-pub Owes-without_inode : (t : Tables) (p : Parameters) (id : ℕ) (links uses : List ℕ) → Owes t p (id ∷ links) uses
-    → HasNothing t id → Owes (record t { inodes = without by_inode id t.inodes }) p links uses
-Owes-without_inode t p id links uses o nothing =
-    Owes-inodes t p (without by_inode id t.inodes) (λ x. not (x == id)) only keeps (id ∷ links) uses links o
+-- whatever was owed to it
+pub Owes-without_inode_any : (t : Tables) (p : Parameters) (id : ℕ) (links uses now : List ℕ) → Owes t p links uses → HasNothing t id
+    → ((x : ℕ) → (id == x) ≡ false → times x now ≡ times x links) → Owes (record t { inodes = without by_inode id t.inodes }) p now uses
+Owes-without_inode_any t p id links uses now o nothing others =
+    Owes-inodes t p (without by_inode id t.inodes) (λ x. not (x == id)) only keeps links uses now o
     (rises-without by_inode id t.inodes o.ordered.inodes)
-    (list_all_weaker_both (λ r. not (has_key by_inode id r)) (owes_links t (id ∷ links)) (owes_links t links)
+    (list_all_weaker_both (λ r. not (has_key by_inode id r)) (owes_links t links) (owes_links t now)
     (λ r apart owed. ap (λ n. r.refcount == listed_inode_count t r.id + n)
-    (sym (times_other id r.id links (sym (is_eq-nat_cmp id r.id) ∙ false_from_not (has_key by_inode id r) apart))) ∙ owed)
+    (others r.id (sym (is_eq-nat_cmp id r.id) ∙ false_from_not (has_key by_inode id r) apart)) ∙ owed)
     (without by_inode id t.inodes) (list_all-filter_same (λ r. not (has_key by_inode id r)) t.inodes)
-    (list_all-without by_inode (owes_links t (id ∷ links)) id t.inodes o.inodes))
+    (list_all-without by_inode (owes_links t links) id t.inodes o.inodes))
     (list_all-without by_inode (fits_kind t) id t.inodes o.sizes.inodes)
     (list_all-without by_inode (λ (r : Inode). nat_lt r.id p.next_inode) id t.inodes o.numbers)
   where
@@ -299,3 +300,9 @@ Owes-without_inode t p id links uses o nothing =
     keeps : Keeps t (without by_inode id t.inodes) (λ x. not (x == id))
     keeps test x good told =
         ap (tells test) (row_at-without_other by_inode nat_cmp_total id x t.inodes (is_eq-nat_cmp id x ∙ eqb_comm id x ∙ false_from_not (x == id) good)) ∙ told
+
+-- it counted only a link that it owed
+pub Owes-without_inode : (t : Tables) (p : Parameters) (id : ℕ) (links uses : List ℕ) → Owes t p (id ∷ links) uses
+    → HasNothing t id → Owes (record t { inodes = without by_inode id t.inodes }) p links uses
+Owes-without_inode t p id links uses o nothing =
+    Owes-without_inode_any t p id (id ∷ links) uses links o nothing (λ x other. sym (times_other id x links other))

@@ -7,7 +7,7 @@ use Rattle.std.specs.Ordering.{is_eq}
 use Rattle.plain_tree.specs.Tree.{Tree}
 use Rattle.s3_rows.specs.declared.change.Change.{Change}
 use Rattle.s3_rows.specs.declared.change.Change.TheVariants as changes
-use Rattle.s3_rows.specs.Rows.{Name, Parameters}
+use Rattle.s3_rows.specs.Rows.{Inode, Name, Parameters}
 use Rattle.s3_rows.specs.Keyed.{has_key, put, without}
 use Rattle.s3_rows.specs.Tables.{Tables, by_name}
 use Rattle.s3_rows.specs.Batches.{tables_after}
@@ -16,18 +16,19 @@ use Rattle.s3_rows.specs.Validity.{HasUniqueNames, differ, have_same_bytes}
 use Rattle.s3_rows.specs.Counts.{listed_name_count}
 use Rattle.row_lemmas.proofs.Tests.{differ-map, find_passes_all}
 use Rattle.row_lemmas.proofs.Keyed.Put.{map-put_there}
-use Rattle.tree_rows.specs.Shapes.{Represents}
+use Rattle.tree_rows.specs.Shapes.{node_of_row, Represents}
+use Rattle.ref_counts.specs.Names.{lowered}
 use Rattle.row_steps.specs.Owed.{Owes, owes_uses, times}
-use Rattle.row_steps.specs.RowChanges.{lowered}
 use Rattle.row_steps.proofs.Owed.Contents.{differ-filter}
 use Rattle.row_steps.proofs.Owed.Names.{KeepsBytes-put, KeepsBytes-without, Owes-put_name_less, Owes-without_name, any_name, bytes_of_row, own_bytes, unused}
-use Rattle.row_steps.proofs.Shape.Names.{Represents-names}
+use Rattle.row_steps.proofs.Shape.Names.{Represents-names, node_after}
 
 -- the rows of names after the changes, and what holds of them
 pub record IsLower (t : Tables) (p : Parameters) (links uses : List ℕ) (more : List Change) : Type 0 where
   pub rows : List Name
   pub after : tables_after more t ≡ record t { names = rows }
   pub owes : Owes (record t { names = rows }) p links uses
+  pub nodes : (x : Inode) → node_of_row (record t { names = rows }) x ≡ node_of_row t x
   pub represents : (whole : Tree) → Represents t whole → Represents (record t { names = rows }) whole
   pub unique : HasUniqueNames t → IsTrue (differ have_same_bytes rows)
 
@@ -45,6 +46,9 @@ IsLower-lowered t p n links uses o there = by_case (n.refcount == 1) refl
           rows = without by_name n.id t.names;
           after = refl;
           owes = Owes-without_name t p n links uses o there last;
+          nodes =
+              node_after t (without by_name n.id t.names) (λ x. not (x == n.id)) (unused t p n links uses o there last)
+              (KeepsBytes-without t p n links uses o there last) o.rows.entries o.rows.attrs;
           represents =
               λ whole same.
               Represents-names t (without by_name n.id t.names) (λ x. not (x == n.id)) (unused t p n links uses o there last)
@@ -66,6 +70,9 @@ IsLower-lowered t p n links uses o there = by_case (n.refcount == 1) refl
           rows = put by_name low t.names;
           after = refl;
           owes = Owes-put_name_less t p n (n.refcount - 1) links uses o there less left;
+          nodes =
+              node_after t (put by_name low t.names) (λ x. true) (any_name t)
+              (KeepsBytes-put t low (own_bytes t p n links (n.id ∷ uses) o there)) o.rows.entries o.rows.attrs;
           represents =
               λ whole same.
               Represents-names t (put by_name low t.names) (λ x. true) (any_name t)

@@ -5,17 +5,18 @@ use Rattle.std.specs.List.{list_all, filter_map}
 use Rattle.std.specs.Cmp.{nat_cmp_total}
 use Rattle.std.proofs.lemmas.Bool.{and_parts}
 use Rattle.s3_base.specs.declared.node_kind.Kind.TheVariants as kinds
-use Rattle.plain_tree.specs.Tree.{Tree}
+use Rattle.plain_tree.specs.Tree.{Tree, without_node}
 use Rattle.s3_rows.specs.declared.lists.NamedAttr.{NamedAttr}
-use Rattle.s3_rows.specs.Rows.{Inode, Target, Attr}
-use Rattle.s3_rows.specs.Keyed.{has_key, put, row_at, sorted_by, without}
+use Rattle.s3_rows.specs.Rows.{Inode, Target, Attr, Parameters}
+use Rattle.s3_rows.specs.Keyed.{has_key, put, rises, row_at, sorted_by, without}
 use Rattle.s3_rows.specs.Tables.{Tables, by_attr, by_inode, by_target}
 use Rattle.s3_rows.specs.Selections.{inode_at, target_at, with_attr_name, by_attr_name}
 use Rattle.row_lemmas.proofs.Tests.{eqb_comm, false_from_not, is_eq-nat_cmp, list_all_from_find, list_all_weaker}
 use Rattle.row_lemmas.proofs.Keyed.Put.{row_at-put_other}
-use Rattle.row_lemmas.proofs.Keyed.Without.{row_at-without_other}
+use Rattle.row_lemmas.proofs.Keyed.Without.{row_at-without_other, row_at-without_same}
 use Rattle.tree_rows.specs.Shapes.{Directory, Regular, Link, NodeShape, attributes_in, content_of_row, entries_in, node_of_row, shape_of_tables, target_in, Represents}
 use Rattle.row_steps.proofs.Owed.Contents.{pair_parts}
+use Rattle.row_steps.proofs.Shape.Deletes.{Represents-without_inode}
 use Rattle.row_steps.proofs.Shape.Rows.{row_shape}
 
 -- what a second filter leaves is what it leaves alone, where it passes the first
@@ -45,44 +46,55 @@ no_row t id none =
     list_all_weaker (λ x. not (has_key by_inode id x)) (λ (x : Inode). not (x.id == id))
     (λ x apart. ap not (eqb_comm x.id id ∙ sym (is_eq-nat_cmp id x.id)) ∙ apart) t.inodes (list_all_from_find (has_key by_inode id) t.inodes none)
 
+-- an attribute of another inode
+pub node_of_row-without_attr_other : (t : Tables) (id name_id : ℕ) (x : Inode) → (x.id == id) ≡ false
+    → node_of_row (record t { attrs = without by_attr (id, name_id) t.attrs }) x ≡ node_of_row t x
+node_of_row-without_attr_other t id name_id x apart = λ i. record (node_of_row t x) { attributes = attributes i }
+  where
+    other : (r : Attr) → (r.inode == x.id) ≡ true → not (has_key by_attr (id, name_id) r) ≡ true
+    other r here = by_case (has_key by_attr (id, name_id) r) refl
+      where
+        by_case : (b : Bool) → has_key by_attr (id, name_id) r ≡ b → not b ≡ true
+        by_case true is =
+            let clash : true ≡ false =
+            sym here ∙ eqb_comm r.inode x.id ∙ ap (λ n. x.id == n) (sym (pair_parts (id, name_id) (r.inode, r.name_id) is).0) ∙ apart in
+            absurd (cc clash)
+        by_case false is = refl
+
+    attributes : attributes_in (record t { attrs = without by_attr (id, name_id) t.attrs }) x.id ≡ attributes_in t x.id
+    attributes =
+        ap (λ (rows : List Attr). map (λ (a : NamedAttr). (a.name, a.row.value)) (sorted_by by_attr_name (filter_map (with_attr_name t) rows)))
+        (filter-filter_weaker (λ r. not (has_key by_attr (id, name_id) r)) (λ (r : Attr). r.inode == x.id) other t.attrs)
+
 pub Represents-without_attr_absent : (t : Tables) (whole : Tree) (id name_id : ℕ) → inode_at t id ≡ None → Represents t whole
     → Represents (record t { attrs = without by_attr (id, name_id) t.attrs }) whole
 Represents-without_attr_absent t whole id name_id none same =
     ap (λ (es : List (ℕ × NodeShape)). record (shape_of_tables t) { nodes = es })
-    (rows_agree t (record t { attrs = without by_attr (id, name_id) t.attrs }) id node t.inodes (no_row t id none)) ∙ same
-  where
-    attributes : (x : ℕ) → (x == id) ≡ false → attributes_in (record t { attrs = without by_attr (id, name_id) t.attrs }) x ≡ attributes_in t x
-    attributes x apart =
-        ap (λ (rows : List Attr). map (λ (a : NamedAttr). (a.name, a.row.value)) (sorted_by by_attr_name (filter_map (with_attr_name t) rows)))
-        (filter-filter_weaker (λ r. not (has_key by_attr (id, name_id) r)) (λ (r : Attr). r.inode == x) other t.attrs)
-      where
-        other : (r : Attr) → (r.inode == x) ≡ true → not (has_key by_attr (id, name_id) r) ≡ true
-        other r here = by_case (has_key by_attr (id, name_id) r) refl
-          where
-            by_case : (b : Bool) → has_key by_attr (id, name_id) r ≡ b → not b ≡ true
-            by_case true is =
-                let clash : true ≡ false =
-                sym here ∙ eqb_comm r.inode x ∙ ap (λ n. x == n) (sym (pair_parts (id, name_id) (r.inode, r.name_id) is).0) ∙ apart in
-                absurd (cc clash)
-            by_case false is = refl
+    (rows_agree t (record t { attrs = without by_attr (id, name_id) t.attrs }) id (node_of_row-without_attr_other t id name_id) t.inodes (no_row t id none)) ∙ same
 
-    node : (x : Inode) → (x.id == id) ≡ false → node_of_row (record t { attrs = without by_attr (id, name_id) t.attrs }) x ≡ node_of_row t x
-    node x apart = λ i. record (node_of_row t x) { attributes = attributes x.id apart i }
+-- other rows of targets, with that of an inode
+node_of_row-targets : (t : Tables) (rows : List Target) (x : Inode) → row_at by_target x.id rows ≡ target_at t x.id
+    → node_of_row (record t { targets = rows }) x ≡ node_of_row t x
+node_of_row-targets t rows x found =
+    let target : target_in (record t { targets = rows }) x.id ≡ target_in t x.id =
+    ap (λ (y : Option Target). unwrap_or (option_map (λ (r : Target). r.target) y) []) found in
+    let content : content_of_row (record t { targets = rows }) x ≡ content_of_row t x =
+    (λ i. elim x.kind [ kinds.Directory ↦ Directory (entries_in t x.id) | kinds.Regular ↦ Regular x.size | kinds.Link ↦ Link (target i) ]) in
+    λ i. record (node_of_row t x) { content = content i }
+
+-- the target of another inode
+pub node_of_row-without_target_other : (t : Tables) (id : ℕ) (x : Inode) → (x.id == id) ≡ false
+    → node_of_row (record t { targets = without by_target id t.targets }) x ≡ node_of_row t x
+node_of_row-without_target_other t id x apart =
+    node_of_row-targets t (without by_target id t.targets) x
+    (row_at-without_other by_target nat_cmp_total id x.id t.targets (is_eq-nat_cmp id x.id ∙ eqb_comm id x.id ∙ apart))
 
 -- other rows of targets, with those of all inodes that have a row
 targets_absent : (t : Tables) (whole : Tree) (id : ℕ) (rows : List Target) → inode_at t id ≡ None
     → ((x : ℕ) → (x == id) ≡ false → row_at by_target x rows ≡ target_at t x) → Represents t whole → Represents (record t { targets = rows }) whole
 targets_absent t whole id rows none found same =
     ap (λ (es : List (ℕ × NodeShape)). record (shape_of_tables t) { nodes = es })
-    (rows_agree t (record t { targets = rows }) id node t.inodes (no_row t id none)) ∙ same
-  where
-    node : (x : Inode) → (x.id == id) ≡ false → node_of_row (record t { targets = rows }) x ≡ node_of_row t x
-    node x apart =
-        let target : target_in (record t { targets = rows }) x.id ≡ target_in t x.id =
-        ap (λ (y : Option Target). unwrap_or (option_map (λ (r : Target). r.target) y) []) (found x.id apart) in
-        let content : content_of_row (record t { targets = rows }) x ≡ content_of_row t x =
-        (λ i. elim x.kind [ kinds.Directory ↦ Directory (entries_in t x.id) | kinds.Regular ↦ Regular x.size | kinds.Link ↦ Link (target i) ]) in
-        λ i. record (node_of_row t x) { content = content i }
+    (rows_agree t (record t { targets = rows }) id (λ x apart. node_of_row-targets t rows x (found x.id apart)) t.inodes (no_row t id none)) ∙ same
 
 pub Represents-without_target_absent : (t : Tables) (whole : Tree) (id : ℕ) → inode_at t id ≡ None → Represents t whole
     → Represents (record t { targets = without by_target id t.targets }) whole
@@ -95,3 +107,19 @@ pub Represents-put_target_absent : (t : Tables) (whole : Tree) (r : Target) → 
 Represents-put_target_absent t whole r none same =
     targets_absent t whole r.inode (put by_target r t.targets) none
     (λ x apart. row_at-put_other by_target nat_cmp_total x r t.targets (is_eq-nat_cmp x r.inode ∙ apart)) same
+
+-- where an inode goes, and the nodes of the others stay, the tree has its node less
+pub Represents-without_inode_rest : (t u : Tables) (whole : Tree) (id : ℕ) → IsTrue (rises by_inode t.inodes) → u.params ≡ t.params
+    → u.inodes ≡ without by_inode id t.inodes → ((x : Inode) → (x.id == id) ≡ false → node_of_row u x ≡ node_of_row t x) → Represents t whole
+    → Represents u (without_node id whole)
+Represents-without_inode_rest t u whole id rise params inodes node same =
+    let gone : Tables = record t { inodes = without by_inode id t.inodes } in
+    let nodes : map (row_shape u) u.inodes ≡ map (row_shape t) gone.inodes =
+    ap (map (row_shape u)) inodes ∙ rows_agree t u id node gone.inodes (no_row gone id (row_at-without_same by_inode nat_cmp_total id t.inodes)) in
+    let shape : shape_of_tables u ≡ shape_of_tables gone =
+    λ i. record {
+      block_size = unwrap_or (option_map (λ (p : Parameters). p.block_size) (params i)) 0;
+      next_inode = unwrap_or (option_map (λ (p : Parameters). p.next_inode) (params i)) 0;
+      nodes = nodes i;
+    } in
+    shape ∙ Represents-without_inode t whole id rise same

@@ -1,5 +1,5 @@
-use Rattle.row_steps.proofs.Dropping.{HasUniqueNames-dropping_attr, Owes-dropping_attr, Represents-dropping_attr}
+use Rattle.row_steps.proofs.Dropping.{HasUniqueNames-dropping_attr, Owes-dropping_attr, node_of_row-dropping_attr}
 use Rattle.row_steps.proofs.entries.attributes_that_go_owe_nothing.Goals as goal
 
 pub returns : goal.returns
-returns c = record { owes = Owes-dropping_attr; represents = Represents-dropping_attr; unique = HasUniqueNames-dropping_attr }
+returns c = record { owes = Owes-dropping_attr; nodes = node_of_row-dropping_attr; unique = HasUniqueNames-dropping_attr }

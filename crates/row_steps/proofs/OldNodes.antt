@@ -1,0 +1,110 @@
+-- An empty directory that goes.
+use Rattle.std.proofs.Common.{◌≡◌, ℕ, List, ◌++◌, Bool, true, false, Option, None, Some, refl, sym, ap, ◌∙◌, subst, eqb-true}
+use Rattle.std.specs.Prelude.{IsTrue, not, ◌==◌, is_some, option_and_then, unwrap_or}
+use Rattle.std.specs.List.{list_all, list_any}
+use Rattle.std.proofs.lemmas.Bool.{and_parts}
+use Rattle.s3_base.specs.declared.node_kind.Kind.TheVariants as kinds
+use Rattle.op_frames.specs.declared.operation.Op.TheVariants as ops
+use Rattle.plain_tree.specs.Tree.{Tree, node_at, without_node}
+use Rattle.plain_tree.specs.Checks.{first_failure, node_check, directory_check, empty_check}
+use Rattle.plain_tree.specs.Entries.{child_at, drop_entry}
+use Rattle.plain_tree.specs.Entries as entries
+use Rattle.plain_tree.specs.Operations.{checks, effect}
+use Rattle.plain_tree.specs.WellFormed.{IsWellFormed}
+use Rattle.s3_rows.specs.Rows.{Inode, Name, Content, InodeBlock, Slot, Parameters}
+use Rattle.s3_rows.specs.Tables.{Tables}
+use Rattle.s3_rows.specs.Batches.{tables_after}
+use Rattle.s3_rows.specs.Selections.{inode_at, entry_at, block_at, bytes_of_name, name_of_bytes}
+use Rattle.s3_rows.specs.Validity.{IsValid, HasUniqueNames, any_kind, finds_of_inode_block, has_inode, is_regular}
+use Rattle.row_lemmas.proofs.Tests.{find_from_list_any, find_passes, list_all_from_list_any, list_all_weaker}
+use Rattle.tree_laws.proofs.Node.Kind.{empty_is, some_node}
+use Rattle.tree_laws.proofs.Walk.Passed.{CanUnmake, can_unmake}
+use Rattle.tree_rows.specs.Shapes.{Represents}
+use Rattle.tree_rows.proofs.Rooted.{own_entry}
+use Rattle.tree_rows.proofs.Whole.{node_is}
+use Rattle.ref_counts.specs.Plans.{IsStep}
+use Rattle.ref_counts.specs.Removals.{attrs_of, removal}
+use Rattle.row_steps.specs.Owed.{IsBare}
+use Rattle.row_steps.specs.RowChanges.{dropping}
+use Rattle.row_steps.proofs.Leaving.{IsLeaving, IsStep-left, child_there, child_number, entry_is}
+use Rattle.row_steps.proofs.NewNodes.{effect_well}
+use Rattle.row_steps.proofs.Place.{kind_there}
+use Rattle.row_steps.proofs.Removing.{apart_by_kind}
+
+pub old_directory_step : (t : Tables) (whole : Tree) (p : Parameters) (directory child : Inode) (c : Content) (n : Name) (pass parent now : ℕ) (name : List ℕ)
+    → IsValid t → HasUniqueNames t → IsWellFormed whole → Represents t whole → t.params ≡ Some p → inode_at t parent ≡ Some directory
+    → name_of_bytes t name ≡ Some n → entry_at t parent n.id ≡ Some c → inode_at t c.inode ≡ Some child
+    → first_failure (checks whole pass (ops.Rmdir parent name)) ≡ None
+    → IsStep t (tables_after (dropping directory c n now ++ removal child (attrs_of t child.id) (tables_after (dropping directory c n now) t)) t)
+    (effect whole pass (ops.Rmdir parent name) now) 0
+old_directory_step t whole p directory child c n pass parent now name v unique well same made found bytes entry row passes =
+    let after : Tables = tables_after (dropping directory c n now ++ removal child (attrs_of t child.id) (tables_after (dropping directory c n now) t)) t in
+    subst (λ x. IsStep t after x 0) (sym effect_is)
+    (IsStep-left t whole p directory child c n now parent name is bare (subst IsWellFormed effect_is (effect_well whole pass now (ops.Rmdir parent name) well passes)))
+  where
+    can : CanUnmake whole parent name
+    can = can_unmake whole pass parent name passes
+
+    is : IsLeaving t whole p directory child c n parent name
+    is = record {
+      valid = v;
+      same = same;
+      params = made;
+      found = found;
+      kind = kind_there t whole v same parent directory found can.drop.there can.drop.folder;
+      bytes = bytes;
+      entry = entry;
+      child = row;
+    }
+
+    effect_is : effect whole pass (ops.Rmdir parent name) now ≡ without_node c.inode (drop_entry parent name now whole)
+    effect_is = ap (λ (e : Option ℕ). without_node (unwrap_or e 0) (drop_entry parent name now whole)) (entry_is t whole p directory child c n now parent name is)
+
+    child_is : child_at whole parent name ≡ node_at whole c.inode
+    child_is = ap (option_and_then (node_at whole)) (entry_is t whole p directory child c n now parent name is)
+
+    node_passes : node_check (node_at whole c.inode) ≡ None
+    node_passes =
+        let node = some_node (node_at whole c.inode)
+        (node_is t whole same c.inode (ap (λ (x : Option Inode). elim x [ Some r ↦ any_kind r.kind | None ↦ false ]) row)) in
+        ap node_check node.1
+
+    kind : child.kind ≡ kinds.Directory
+    kind = kind_there t whole v same c.inode child row node_passes (ap directory_check (sym child_is) ∙ can.child_folder)
+
+    no_file : is_regular child.kind ≡ false
+    no_file = ap is_regular kind
+
+    there : inode_at t child.id ≡ Some child
+    there = child_there t whole p directory child c n now parent name is
+
+    -- an entry in it would be one of the tree
+    empty : IsTrue (list_all (λ (x : Content). not (x.parent == child.id)) t.contents)
+    empty = list_all_from_list_any (λ (x : Content). x.parent == child.id) t.contents (by_case (list_any (λ (x : Content). x.parent == child.id) t.contents) refl)
+      where
+        by_case : (b : Bool) → list_any (λ (x : Content). x.parent == child.id) t.contents ≡ b → IsTrue (not b)
+        by_case true any =
+            let inner = find_from_list_any (λ (x : Content). x.parent == child.id) t.contents any in
+            let x : Content = inner.0 in
+            let parent_is : x.parent ≡ c.inode =
+            eqb-true x.parent child.id (find_passes (λ (y : Content). y.parent == child.id) t.contents x inner.1)
+            ∙ sym (child_number t whole p directory child c n now parent name is) in
+            let text : List ℕ = bytes_of_name t x.name_id in
+            let in_tree : entries.entry_at whole c.inode text ≡ Some x.inode =
+            ap (λ y. entries.entry_at whole y text) (sym parent_is) ∙ own_entry t v whole same (λ (y : Content). y.parent == child.id) x inner.1 in
+            let none : entries.entry_at whole c.inode text ≡ None = empty_is (node_at whole c.inode) (ap empty_check (sym child_is) ∙ can.empty) text in
+            let clash : Some x.inode ≡ None = sym in_tree ∙ none in
+            absurd (cc clash)
+        by_case false none = refl
+
+    bare : IsBare t child.id
+    bare = record {
+      entries = empty;
+      inode_blocks =
+          list_all_weaker (finds_of_inode_block t) (λ (x : InodeBlock). not (x.inode == child.id))
+          (λ x finds. apart_by_kind t child there is_regular no_file x.inode (and_parts (has_inode is_regular t x.inode) (is_some (block_at t x.block)) finds).0)
+          t.inode_blocks v.rows.inode_blocks;
+      slots =
+          list_all_weaker (λ (x : Slot). has_inode is_regular t x.inode) (λ (x : Slot). not (x.inode == child.id))
+          (λ x. apart_by_kind t child there is_regular no_file x.inode) t.slots v.rows.slots;
+    }
