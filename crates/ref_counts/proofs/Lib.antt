@@ -1,3 +1,5 @@
+pub mod AttrKeys
+pub mod NameRows
 pub mod Named
 pub mod Numbers
 pub mod Overlay

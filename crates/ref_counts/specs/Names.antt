@@ -72,3 +72,7 @@ lowered_of (Some n) = lowered n
 -- one use less of a name in these tables; nothing where it has no row
 abbrev pub lowered_at : Tables → ℕ → List Change
 lowered_at t id = lowered_of (name_at t id)
+
+-- the row of an id, after a row is put
+abbrev pub row_put : Name → ℕ → Option Name → Option Name
+row_put r id found = if r.id == id then Some r else found

@@ -5,10 +5,14 @@
 
 mod attr;
 mod handles;
+mod lowered;
 mod names;
 mod plan;
+mod removal;
 
 pub use attr::attr_of;
 pub use handles::{Handle, Handles};
+pub use lowered::name_down;
 pub use names::name_up;
 pub use plan::Plan;
+pub use removal::drop_file;

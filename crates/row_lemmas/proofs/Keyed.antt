@@ -3,6 +3,7 @@ pub mod Count
 pub mod Filter
 pub mod Place
 pub mod Put
+pub mod Rest
 pub mod Rises
 pub mod RowAt
 pub mod Sorted

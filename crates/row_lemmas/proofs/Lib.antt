@@ -1,3 +1,4 @@
+pub mod Filters
 pub mod Keyed
 pub mod ReplacedInode
 pub mod Sums

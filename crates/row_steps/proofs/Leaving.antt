@@ -19,6 +19,7 @@ use Rattle.s3_rows.specs.Selections as selections
 use Rattle.s3_rows.specs.Validity.{IsValid, HasUniqueNames}
 use Rattle.row_lemmas.proofs.Tests.{equal_from_is_eq, find_passes, find_passes_all, is_eq-nat_cmp, list_any_from_find}
 use Rattle.row_lemmas.proofs.Keyed.Put.{list_all-put, row_at-put_other}
+use Rattle.row_lemmas.proofs.Keyed.Rest.{length-without}
 use Rattle.row_lemmas.proofs.Keyed.RowAt.{row_at_from_find}
 use Rattle.row_lemmas.proofs.Keyed.Without.{list_all-without}
 use Rattle.row_lemmas.proofs.Tables.{tables_after-tables_after}
@@ -30,7 +31,7 @@ use Rattle.ref_counts.specs.Removals.{attrs_of, removal}
 use Rattle.row_steps.specs.Owed.{IsBare, Owes, times}
 use Rattle.row_steps.specs.RowChanges.{dropping, touched_row}
 use Rattle.row_steps.proofs.Dropping.{HasUniqueNames-dropping, Owes-dropping, Represents-dropping, lower}
-use Rattle.row_steps.proofs.Less.{IsLess, IsStep-less, length-without}
+use Rattle.row_steps.proofs.Less.{IsLess, IsStep-less}
 use Rattle.row_steps.proofs.Owed.Contents.{pair_parts}
 use Rattle.row_steps.proofs.Owed.Ends.{Owes-IsValid}
 use Rattle.row_steps.proofs.Owed.Inodes.{times_other}
@@ -175,13 +176,13 @@ module _ (t : Tables) (whole : Tree) (p : Parameters) (d r : Inode) (c : Content
     others x other = sym (times_other c.inode x [] (ap (λ y. y == x) child_number ∙ other))
 
     abbrev left : Tables
-    left = gone dropped p r (c.inode ∷ []) [] [] Owes-dropped row_there bare_after others
+    left = gone dropped p r.id (c.inode ∷ []) [] [] Owes-dropped bare_after others
 
-    pub left_is : tables_after (dropping d c n now ++ removal r (attrs_of t r.id) dropped) t ≡ left
+    pub left_is : tables_after (dropping d c n now ++ removal t r.id dropped) t ≡ left
     left_is =
-        sym (tables_after-tables_after (dropping d c n now) (removal r (attrs_of t r.id) dropped) t)
-        ∙ ap (λ attrs. tables_after (removal r attrs dropped) dropped) (ap (λ (u : Tables). attrs_of u r.id) (sym dropped_is))
-        ∙ tables_after-removal dropped p r (c.inode ∷ []) [] [] Owes-dropped row_there bare_after others
+        sym (tables_after-tables_after (dropping d c n now) (removal t r.id dropped) t)
+        ∙ ap (λ (u : Tables). tables_after (removal (record t { attrs = u.attrs; targets = u.targets }) r.id dropped) dropped) (sym dropped_is)
+        ∙ tables_after-removal dropped p r.id (c.inode ∷ []) [] [] Owes-dropped bare_after others
 
     IsLess-left : IsLess t left
     IsLess-left =
@@ -193,18 +194,18 @@ module _ (t : Tables) (whole : Tree) (p : Parameters) (d r : Inode) (c : Content
           objects = before.objects;
           slots = before.slots;
           contents = before.contents;
-          attrs = omega (arith, before.attrs, attrs-removal dropped p r (c.inode ∷ []) [] [] Owes-dropped row_there bare_after others);
+          attrs = omega (arith, before.attrs, attrs-removal dropped p r.id (c.inode ∷ []) [] [] Owes-dropped bare_after others);
           named = λ all. list_all-without by_inode (λ (x : Inode). not (x.refcount == 0)) r.id dropped.inodes (before.named all);
         }
 
     pub IsStep-left : IsWellFormed (without_node c.inode (drop_entry parent name now whole))
-        → IsStep t (tables_after (dropping d c n now ++ removal r (attrs_of t r.id) dropped) t) (without_node c.inode (drop_entry parent name now whole)) 0
+        → IsStep t (tables_after (dropping d c n now ++ removal t r.id dropped) t) (without_node c.inode (drop_entry parent name now whole)) 0
     IsStep-left well =
         subst (λ (u : Tables). IsStep t u (without_node c.inode (drop_entry parent name now whole)) 0) (sym left_is)
         (IsStep-less t left (without_node c.inode (drop_entry parent name now whole)) p
-        (Owes-removal dropped p r (c.inode ∷ []) [] [] Owes-dropped row_there bare_after others)
+        (Owes-removal dropped p r.id (c.inode ∷ []) [] [] Owes-dropped bare_after others)
         (subst (λ x. Represents left (without_node x (drop_entry parent name now whole))) (sym child_number)
-        (Represents-removal dropped p r (c.inode ∷ []) [] [] Owes-dropped row_there bare_after others (drop_entry parent name now whole) Represents-dropped))
+        (Represents-removal dropped p r.id (c.inode ∷ []) [] [] Owes-dropped bare_after others (drop_entry parent name now whole) Represents-dropped))
         well
-        (λ unique. HasUniqueNames-removal dropped p r (c.inode ∷ []) [] [] Owes-dropped row_there bare_after others (HasUniqueNames-dropped unique))
+        (λ unique. HasUniqueNames-removal dropped p r.id (c.inode ∷ []) [] [] Owes-dropped bare_after others (HasUniqueNames-dropped unique))
         IsLess-left)

@@ -25,16 +25,6 @@ pub record IsLess (t u : Tables) : Type 0 where
   pub attrs : length u.attrs ≤ length t.attrs
   pub named : AreNamed t → AreNamed u
 
--- a delete leaves no more rows
-pub length-without : {K R : Type 0} (o : Order K R) (k : K) (rows : List R) → length (without o k rows) ≤ length rows
-length-without o k rows =
-    let both = length-filter_both (λ r. not (has_key o k r)) (has_key o k) (λ r. twice (has_key o k r)) rows in
-    omega (arith, both)
-  where
-    twice : (b : Bool) → b ≡ not (not b)
-    twice true = refl
-    twice false = refl
-
 -- a step by which no number is drawn
 pub IsStep-less : (t u : Tables) (next : Tree) (p : Parameters) → Owes u p [] [] → Represents u next → IsWellFormed next
     → (HasUniqueNames t → HasUniqueNames u) → IsLess t u → IsStep t u next 0

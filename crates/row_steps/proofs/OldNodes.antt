@@ -23,7 +23,7 @@ use Rattle.tree_rows.specs.Shapes.{Represents}
 use Rattle.tree_rows.proofs.Rooted.{own_entry}
 use Rattle.tree_rows.proofs.Whole.{node_is}
 use Rattle.ref_counts.specs.Plans.{IsStep}
-use Rattle.ref_counts.specs.Removals.{attrs_of, removal}
+use Rattle.ref_counts.specs.Removals.{removal}
 use Rattle.row_steps.specs.Owed.{IsBare}
 use Rattle.row_steps.specs.RowChanges.{dropping}
 use Rattle.row_steps.proofs.Leaving.{IsLeaving, IsStep-left, child_there, child_number, entry_is}
@@ -35,10 +35,10 @@ pub old_directory_step : (t : Tables) (whole : Tree) (p : Parameters) (directory
     → IsValid t → HasUniqueNames t → IsWellFormed whole → Represents t whole → t.params ≡ Some p → inode_at t parent ≡ Some directory
     → name_of_bytes t name ≡ Some n → entry_at t parent n.id ≡ Some c → inode_at t c.inode ≡ Some child
     → first_failure (checks whole pass (ops.Rmdir parent name)) ≡ None
-    → IsStep t (tables_after (dropping directory c n now ++ removal child (attrs_of t child.id) (tables_after (dropping directory c n now) t)) t)
+    → IsStep t (tables_after (dropping directory c n now ++ removal t child.id (tables_after (dropping directory c n now) t)) t)
     (effect whole pass (ops.Rmdir parent name) now) 0
 old_directory_step t whole p directory child c n pass parent now name v unique well same made found bytes entry row passes =
-    let after : Tables = tables_after (dropping directory c n now ++ removal child (attrs_of t child.id) (tables_after (dropping directory c n now) t)) t in
+    let after : Tables = tables_after (dropping directory c n now ++ removal t child.id (tables_after (dropping directory c n now) t)) t in
     subst (λ x. IsStep t after x 0) (sym effect_is)
     (IsStep-left t whole p directory child c n now parent name is bare (subst IsWellFormed effect_is (effect_well whole pass now (ops.Rmdir parent name) well passes)))
   where

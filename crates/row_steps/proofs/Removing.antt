@@ -14,10 +14,11 @@ use Rattle.s3_rows.specs.Rows.{Inode, Name, Target, Attr, Parameters}
 use Rattle.s3_rows.specs.Keyed.{Order, has_key, rises, without}
 use Rattle.s3_rows.specs.Tables.{Tables, by_attr, by_inode, by_target}
 use Rattle.s3_rows.specs.Batches.{tables_after}
-use Rattle.s3_rows.specs.Selections.{inode_at, name_at, attr_at}
+use Rattle.s3_rows.specs.Selections.{inode_at, name_at, attr_at, target_at}
 use Rattle.s3_rows.specs.Validity.{HasUniqueNames, any_kind, differ, finds_of_attr, has_inode, have_same_bytes, is_link}
 use Rattle.row_lemmas.proofs.Tests.{eqb_comm, find_passes, find_passes_all, is_eq-nat_cmp, list_all-filter_same, list_all_weaker}
-use Rattle.row_lemmas.proofs.Keyed.Rises.{rises-filter}
+use Rattle.row_lemmas.proofs.Filters.{find_from_filter, list_all_from_filter}
+use Rattle.row_lemmas.proofs.Keyed.Rest.{filter-without_first, length-without}
 use Rattle.row_lemmas.proofs.Keyed.RowAt.{has_key_same, row_at_behind, row_at_from_find}
 use Rattle.row_lemmas.proofs.Keyed.Without.{without_none}
 use Rattle.row_lemmas.proofs.Tables.{pair_cmp_total, tables_after-tables_after}
@@ -30,51 +31,6 @@ use Rattle.row_steps.proofs.Owed.Attrs.{Owes-without_target}
 use Rattle.row_steps.proofs.Owed.Inodes.{Owes-without_inode_any}
 use Rattle.row_steps.proofs.Owed.Lowered.{IsLower}
 use Rattle.row_steps.proofs.Shape.Absent.{Represents-without_inode_rest, node_of_row-without_attr_other, node_of_row-without_target_other}
-
--- ---- rows that pass a test
-
--- the first of them is found
-find_from_filter : {R : Type 0} (q : R → Bool) (rows rest : List R) (x : R) → filter q rows ≡ x ∷ rest → find q rows ≡ Some x
-find_from_filter q [] rest x is = absurd (cc is)
-find_from_filter q (y ∷ ys) rest x is = by_case (find_from_filter q ys rest x) (q y) is
-  where
-    by_case : (filter q ys ≡ x ∷ rest → find q ys ≡ Some x) → (b : Bool) → cond b (y ∷ filter q ys) (filter q ys) ≡ x ∷ rest → cond b (Some y) (find q ys) ≡ Some x
-    by_case others true there =
-        let same : y ≡ x = cc there in
-        ap Some same
-    by_case others false there = others there
-
--- where there is none, all fail
-list_all_from_filter : {R : Type 0} (q : R → Bool) (rows : List R) → filter q rows ≡ [] → IsTrue (list_all (λ r. not (q r)) rows)
-list_all_from_filter q [] is = refl
-list_all_from_filter q (y ∷ ys) is = by_case (list_all_from_filter q ys) (q y) is
-  where
-    by_case : (filter q ys ≡ [] → IsTrue (list_all (λ r. not (q r)) ys)) → (b : Bool) → cond b (y ∷ filter q ys) (filter q ys) ≡ []
-        → IsTrue (not b && list_all (λ r. not (q r)) ys)
-    by_case others true there = absurd (cc there)
-    by_case others false there = others there
-
-filter_comm : {R : Type 0} (p q : R → Bool) (rows : List R) → filter p (filter q rows) ≡ filter q (filter p rows)
-filter_comm p q [] = refl
-filter_comm {R} p q (r ∷ rs) = by_case (filter_comm p q rs) (p r) refl (q r) refl
-  where
-    by_case : filter p (filter q rs) ≡ filter q (filter p rs) → (b : Bool) → p r ≡ b → (c : Bool) → q r ≡ c
-        → filter p (cond c (r ∷ filter q rs) (filter q rs)) ≡ filter q (cond b (r ∷ filter p rs) (filter p rs))
-    by_case others true passes true own =
-        ap (λ d. cond d (r ∷ filter p (filter q rs)) (filter p (filter q rs))) passes ∙ ap (λ ys. r ∷ ys) others
-        ∙ sym (ap (λ d. cond d (r ∷ filter q (filter p rs)) (filter q (filter p rs))) own)
-    by_case others true passes false own = others ∙ sym (ap (λ d. cond d (r ∷ filter q (filter p rs)) (filter q (filter p rs))) own)
-    by_case others false passes true own = ap (λ d. cond d (r ∷ filter p (filter q rs)) (filter p (filter q rs))) passes ∙ others
-    by_case others false passes false own = others
-
--- without the first of them, the rest are left
-filter-without_first : {K R : Type 0} (o : Order K R) → IsTotalOrder o.compare → (q : R → Bool) (rows rest : List R) (x : R) → IsTrue (rises o rows)
-    → filter q rows ≡ x ∷ rest → filter q (without o (o.key x) rows) ≡ rest
-filter-without_first {K} {R} o total q rows rest x rise is =
-    let up : IsTrue (rises o (x ∷ rest)) = subst (λ (ys : List R). IsTrue (rises o ys)) is (rises-filter o q rows rise) in
-    filter_comm q (λ r. not (has_key o (o.key x) r)) rows ∙ ap (without o (o.key x)) is
-    ∙ ap (λ b. cond (not b) (x ∷ without o (o.key x) rest) (without o (o.key x) rest)) (has_key_same o total x)
-    ∙ without_none o (o.key x) rest (ap is_some (row_at_behind o total (o.key x) x rest up (tied_itself total (o.key x))))
 
 -- ---- its attributes
 
@@ -131,8 +87,6 @@ IsCleared-attrs_dropped (a ∷ attrs) t p links uses id o is =
         let u : Tables = record t { names = lower.rows; attrs = without by_attr (a.inode, a.name_id) t.attrs } in
         let rest : IsCleared u (tables_after (attrs_dropped attrs u) u) p links uses id =
         others u lower.owes (filter-without_first by_attr pair_cmp_total (λ (r : Attr). r.inode == id) t.attrs attrs a o.ordered.attrs is) in
-        let shorter : length (without by_attr (a.inode, a.name_id) t.attrs) + length (filter (λ (r : Attr). has_key by_attr (a.inode, a.name_id) r) t.attrs) ≡ length t.attrs =
-        length-filter_both (λ (r : Attr). not (has_key by_attr (a.inode, a.name_id) r)) (has_key by_attr (a.inode, a.name_id)) (λ r. twice (has_key by_attr (a.inode, a.name_id) r)) t.attrs in
         record {
           names = rest.names;
           attrs = rest.attrs;
@@ -145,12 +99,8 @@ IsCleared-attrs_dropped (a ∷ attrs) t p links uses id o is =
               rest.nodes x apart ∙ lower.nodes x ∙ node_of_row-without_attr_other t a.inode a.name_id x (ap (λ n. x.id == n) own ∙ apart);
           unique = λ unique. rest.unique (lower.unique unique);
           none = rest.none;
-          fewer = omega (arith, rest.fewer, shorter);
+          fewer = omega (arith, rest.fewer, length-without by_attr (a.inode, a.name_id) t.attrs);
         }
-      where
-        twice : (b : Bool) → b ≡ not (not b)
-        twice true = refl
-        twice false = refl
 
 -- ---- numbers of rows of other kinds
 
@@ -168,76 +118,51 @@ apart_by_kind t r there test other x has = by_case (x == r.id) refl
 
 -- ---- all of it
 
-module _ (t : Tables) (p : Parameters) (r : Inode) (links uses now : List ℕ) (o : Owes t p links uses) (there : inode_at t r.id ≡ Some r) (bare : IsBare t r.id)
-    (others : (x : ℕ) → (r.id == x) ≡ false → times x now ≡ times x links) where
-  pub cleared : IsCleared t (tables_after (attrs_dropped (attrs_of t r.id) t) t) p links uses r.id
-  cleared = IsCleared-attrs_dropped (attrs_of t r.id) t p links uses r.id o refl
+module _ (t : Tables) (p : Parameters) (id : ℕ) (links uses now : List ℕ) (o : Owes t p links uses) (bare : IsBare t id)
+    (others : (x : ℕ) → (id == x) ≡ false → times x now ≡ times x links) where
+  pub cleared : IsCleared t (tables_after (attrs_dropped (attrs_of t id) t) t) p links uses id
+  cleared = IsCleared-attrs_dropped (attrs_of t id) t p links uses id o refl
 
   abbrev bared : Tables
   bared = record t { names = cleared.names; attrs = cleared.attrs }
 
-  -- the targets that are left
-  abbrev targets_left : Kind → List Target
-  targets_left kinds.Link = without by_target r.id t.targets
-  targets_left kinds.Directory = t.targets
-  targets_left kinds.Regular = t.targets
-
-  abbrev emptied : Kind → Tables
-  emptied kind = record bared { targets = targets_left kind }
+  abbrev emptied : Tables
+  emptied = record bared { targets = without by_target id t.targets }
 
   abbrev pub gone : Tables
-  gone = record (emptied r.kind) { inodes = without by_inode r.id t.inodes }
+  gone = record emptied { inodes = without by_inode id t.inodes }
 
-  pub tables_after-removal : tables_after (removal r (attrs_of t r.id) t) t ≡ gone
+  pub tables_after-removal : tables_after (removal t id t) t ≡ gone
   tables_after-removal =
-      let attrs : List Change = attrs_dropped (attrs_of t r.id) t in
-      let target : List Change = target_dropped r.kind r.id in
-      sym (tables_after-tables_after (attrs ++ target) (changes.DeleteInode r.id ∷ []) t)
-      ∙ ap (tables_after (changes.DeleteInode r.id ∷ [])) (sym (tables_after-tables_after attrs target t) ∙ ap (tables_after target) cleared.after ∙ by_kind r.kind)
+      let attrs : List Change = attrs_dropped (attrs_of t id) t in
+      let target : List Change = target_dropped (target_at t id) id in
+      sym (tables_after-tables_after (attrs ++ target) (changes.DeleteInode id ∷ []) t)
+      ∙ ap (tables_after (changes.DeleteInode id ∷ []))
+      (sym (tables_after-tables_after attrs target t) ∙ ap (tables_after target) cleared.after ∙ by_target_row (target_at t id) refl)
     where
-      by_kind : (kind : Kind) → tables_after (target_dropped kind r.id) bared ≡ emptied kind
-      by_kind kinds.Link = refl
-      by_kind kinds.Directory = refl
-      by_kind kinds.Regular = refl
+      by_target_row : (found : Option Target) → target_at t id ≡ found → tables_after (target_dropped found id) bared ≡ emptied
+      by_target_row (Some x) is = refl
+      by_target_row None is = ap (λ (rows : List Target). record bared { targets = rows }) (sym (without_none by_target id t.targets (ap is_some is)))
 
-  owes_emptied : (kind : Kind) → Owes (emptied kind) p links uses
-  owes_emptied kinds.Link = Owes-without_target bared p r.id links uses cleared.owes
-  owes_emptied kinds.Directory = cleared.owes
-  owes_emptied kinds.Regular = cleared.owes
-
-  -- no target is left
-  no_link : is_link r.kind ≡ false → IsTrue (list_all (λ (x : Target). not (x.inode == r.id)) t.targets)
-  no_link other =
-      list_all_weaker (λ (x : Target). has_inode is_link t x.inode) (λ (x : Target). not (x.inode == r.id))
-      (λ x. apart_by_kind t r there is_link other x.inode) t.targets o.rows.targets
-
-  no_target : (kind : Kind) → r.kind ≡ kind → IsTrue (list_all (λ (x : Target). not (x.inode == r.id)) (targets_left kind))
-  no_target kinds.Link is =
-      list_all_weaker (λ (x : Target). not (has_key by_target r.id x)) (λ (x : Target). not (x.inode == r.id))
-      (λ x apart. ap not (eqb_comm x.inode r.id ∙ sym (is_eq-nat_cmp r.id x.inode)) ∙ apart) (without by_target r.id t.targets)
-      (list_all-filter_same (λ (x : Target). not (has_key by_target r.id x)) t.targets)
-  no_target kinds.Directory is = no_link (ap is_link is)
-  no_target kinds.Regular is = no_link (ap is_link is)
-
-  nothing : HasNothing (emptied r.kind) r.id
+  nothing : HasNothing emptied id
   nothing = record {
     entries = bare.entries;
     inode_blocks = bare.inode_blocks;
-    targets = no_target r.kind refl;
-    attrs = list_all_from_filter (λ (x : Attr). x.inode == r.id) cleared.attrs cleared.none;
+    targets =
+        list_all_weaker (λ (x : Target). not (has_key by_target id x)) (λ (x : Target). not (x.inode == id))
+        (λ x apart. ap not (eqb_comm x.inode id ∙ sym (is_eq-nat_cmp id x.inode)) ∙ apart) (without by_target id t.targets)
+        (list_all-filter_same (λ (x : Target). not (has_key by_target id x)) t.targets);
+    attrs = list_all_from_filter (λ (x : Attr). x.inode == id) cleared.attrs cleared.none;
     slots = bare.slots;
   }
 
   pub Owes-removal : Owes gone p now uses
-  Owes-removal = Owes-without_inode_any (emptied r.kind) p r.id links uses now (owes_emptied r.kind) nothing others
+  Owes-removal = Owes-without_inode_any emptied p id links uses now (Owes-without_target bared p id links uses cleared.owes) nothing others
 
-  pub Represents-removal : (whole : Tree) → Represents t whole → Represents gone (without_node r.id whole)
-  Represents-removal whole same = Represents-without_inode_rest t gone whole r.id o.ordered.inodes refl refl (node r.kind) same
-    where
-      node : (kind : Kind) (x : Inode) → (x.id == r.id) ≡ false → node_of_row (emptied kind) x ≡ node_of_row t x
-      node kinds.Link x apart = node_of_row-without_target_other bared r.id x apart ∙ cleared.nodes x apart
-      node kinds.Directory x apart = cleared.nodes x apart
-      node kinds.Regular x apart = cleared.nodes x apart
+  pub Represents-removal : (whole : Tree) → Represents t whole → Represents gone (without_node id whole)
+  Represents-removal whole same =
+      Represents-without_inode_rest t gone whole id o.ordered.inodes refl refl
+      (λ x apart. node_of_row-without_target_other bared id x apart ∙ cleared.nodes x apart) same
 
   pub HasUniqueNames-removal : HasUniqueNames t → HasUniqueNames gone
   HasUniqueNames-removal unique = cleared.unique unique

@@ -12,7 +12,7 @@ ghost use Rattle.s3_rows.specs.Selections.{inode_at, name_at, entry_at, attr_at}
 ghost use Rattle.s3_rows.specs.Validity.{HasUniqueNames};
 ghost use Rattle.tree_rows.specs.Shapes.{node_of_row, Represents};
 ghost use Rattle.ref_counts.specs.Names.{Raised, raised};
-ghost use Rattle.ref_counts.specs.Removals.{attrs_of, removal};
+ghost use Rattle.ref_counts.specs.Removals.{removal};
 ghost use Rattle.row_steps.specs.Owed.{IsBare, Owes, has_entry, times};
 ghost use Rattle.row_steps.specs.RowChanges.{counted_row, dropping, dropping_attr, entering};
 
@@ -75,11 +75,11 @@ pub fn unlinked_inodes_count_one_link_less()
 /// An inode that goes with its attributes and its target, where no entry is in it and no block of it, owes nothing more: links
 /// that were owed to it are not; and the tree has its node less.
 pub fn inodes_that_go_owe_nothing()
-    ensures owes { (t : Tables) (p : Parameters) (r : Inode) (links uses now : List ℕ) → Owes t p links uses → inode_at t r.id ≡ Some r → IsBare t r.id
-        → ((x : ℕ) → (r.id == x) ≡ false → times x now ≡ times x links) → Owes (tables_after (removal r (attrs_of t r.id) t) t) p now uses }
-    ensures represents { (t : Tables) (p : Parameters) (r : Inode) (links uses now : List ℕ) → Owes t p links uses → inode_at t r.id ≡ Some r → IsBare t r.id
-        → ((x : ℕ) → (r.id == x) ≡ false → times x now ≡ times x links) → (whole : Tree) → Represents t whole
-        → Represents (tables_after (removal r (attrs_of t r.id) t) t) (without_node r.id whole) }
-    ensures unique { (t : Tables) (p : Parameters) (r : Inode) (links uses now : List ℕ) → Owes t p links uses → inode_at t r.id ≡ Some r → IsBare t r.id
-        → ((x : ℕ) → (r.id == x) ≡ false → times x now ≡ times x links) → HasUniqueNames t → HasUniqueNames (tables_after (removal r (attrs_of t r.id) t) t) }
+    ensures owes { (t : Tables) (p : Parameters) (id : ℕ) (links uses now : List ℕ) → Owes t p links uses → IsBare t id
+        → ((x : ℕ) → (id == x) ≡ false → times x now ≡ times x links) → Owes (tables_after (removal t id t) t) p now uses }
+    ensures represents { (t : Tables) (p : Parameters) (id : ℕ) (links uses now : List ℕ) → Owes t p links uses → IsBare t id
+        → ((x : ℕ) → (id == x) ≡ false → times x now ≡ times x links) → (whole : Tree) → Represents t whole
+        → Represents (tables_after (removal t id t) t) (without_node id whole) }
+    ensures unique { (t : Tables) (p : Parameters) (id : ℕ) (links uses now : List ℕ) → Owes t p links uses → IsBare t id
+        → ((x : ℕ) → (id == x) ≡ false → times x now ≡ times x links) → HasUniqueNames t → HasUniqueNames (tables_after (removal t id t) t) }
 {}

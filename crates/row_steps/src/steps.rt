@@ -13,7 +13,7 @@ ghost use Rattle.s3_rows.specs.Validity.{IsValid, HasUniqueNames};
 ghost use Rattle.tree_rows.specs.Shapes.{Represents};
 ghost use Rattle.ref_counts.specs.Names.{Raised, raised};
 ghost use Rattle.ref_counts.specs.Plans.{IsStep};
-ghost use Rattle.ref_counts.specs.Removals.{attrs_of, removal};
+ghost use Rattle.ref_counts.specs.Removals.{removal};
 ghost use Rattle.row_steps.specs.Owed.{Owes};
 ghost use Rattle.row_steps.specs.RowChanges.{creation, dropping, new_directory_row, new_file_row, with_drawn};
 
@@ -53,6 +53,6 @@ pub fn old_directories_are_steps()
         → IsValid t → HasUniqueNames t → IsWellFormed whole → Represents t whole → t.params ≡ Some p → inode_at t parent ≡ Some directory
         → name_of_bytes t name ≡ Some n → entry_at t parent n.id ≡ Some c → inode_at t c.inode ≡ Some child
         → first_failure (checks whole pass (ops.Rmdir parent name)) ≡ None
-        → IsStep t (tables_after (dropping directory c n now ++ removal child (attrs_of t child.id) (tables_after (dropping directory c n now) t)) t)
+        → IsStep t (tables_after (dropping directory c n now ++ removal t child.id (tables_after (dropping directory c n now) t)) t)
         (effect whole pass (ops.Rmdir parent name) now) 0 }
 {}

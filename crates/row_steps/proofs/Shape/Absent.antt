@@ -11,6 +11,7 @@ use Rattle.s3_rows.specs.Rows.{Inode, Target, Attr, Parameters}
 use Rattle.s3_rows.specs.Keyed.{has_key, put, rises, row_at, sorted_by, without}
 use Rattle.s3_rows.specs.Tables.{Tables, by_attr, by_inode, by_target}
 use Rattle.s3_rows.specs.Selections.{inode_at, target_at, with_attr_name, by_attr_name}
+use Rattle.row_lemmas.proofs.Filters.{filter-filter_weaker}
 use Rattle.row_lemmas.proofs.Tests.{eqb_comm, false_from_not, is_eq-nat_cmp, list_all_from_find, list_all_weaker}
 use Rattle.row_lemmas.proofs.Keyed.Put.{row_at-put_other}
 use Rattle.row_lemmas.proofs.Keyed.Without.{row_at-without_other, row_at-without_same}
@@ -18,20 +19,6 @@ use Rattle.tree_rows.specs.Shapes.{Directory, Regular, Link, NodeShape, attribut
 use Rattle.row_steps.proofs.Owed.Contents.{pair_parts}
 use Rattle.row_steps.proofs.Shape.Deletes.{Represents-without_inode}
 use Rattle.row_steps.proofs.Shape.Rows.{row_shape}
-
--- what a second filter leaves is what it leaves alone, where it passes the first
-filter-filter_weaker : {R : Type 0} (p q : R → Bool) → ((r : R) → q r ≡ true → p r ≡ true) → (rows : List R) → filter q (filter p rows) ≡ filter q rows
-filter-filter_weaker p q follows [] = refl
-filter-filter_weaker {R} p q follows (r ∷ rs) = by_case (filter-filter_weaker p q follows rs) (p r) refl (q r) refl
-  where
-    by_case : filter q (filter p rs) ≡ filter q rs → (b : Bool) → p r ≡ b → (c : Bool) → q r ≡ c
-        → filter q (cond b (r ∷ filter p rs) (filter p rs)) ≡ cond c (r ∷ filter q rs) (filter q rs)
-    by_case others true passes true own = ap (λ d. cond d (r ∷ filter q (filter p rs)) (filter q (filter p rs))) own ∙ ap (λ ys. r ∷ ys) others
-    by_case others true passes false own = ap (λ d. cond d (r ∷ filter q (filter p rs)) (filter q (filter p rs))) own ∙ others
-    by_case others false passes true own =
-        let clash : false ≡ true = sym passes ∙ follows r own in
-        absurd (cc clash)
-    by_case others false passes false own = others
 
 -- tables in which each inode with a row has its node are the same tree
 rows_agree : (t u : Tables) (id : ℕ) → ((x : Inode) → (x.id == id) ≡ false → node_of_row u x ≡ node_of_row t x) → (rows : List Inode)

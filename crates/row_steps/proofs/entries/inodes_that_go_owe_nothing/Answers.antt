@@ -10,15 +10,15 @@ use Rattle.row_steps.proofs.entries.inodes_that_go_owe_nothing.Goals as goal
 pub returns : goal.returns
 returns c = record {
   owes =
-      λ t p r links uses now o there bare others.
-      subst (λ (u : Tables). Owes u p now uses) (sym (tables_after-removal t p r links uses now o there bare others))
-      (Owes-removal t p r links uses now o there bare others);
+      λ t p id links uses now o bare others.
+      subst (λ (u : Tables). Owes u p now uses) (sym (tables_after-removal t p id links uses now o bare others))
+      (Owes-removal t p id links uses now o bare others);
   represents =
-      λ t p r links uses now o there bare others whole same.
-      subst (λ (u : Tables). Represents u (without_node r.id whole)) (sym (tables_after-removal t p r links uses now o there bare others))
-      (Represents-removal t p r links uses now o there bare others whole same);
+      λ t p id links uses now o bare others whole same.
+      subst (λ (u : Tables). Represents u (without_node id whole)) (sym (tables_after-removal t p id links uses now o bare others))
+      (Represents-removal t p id links uses now o bare others whole same);
   unique =
-      λ t p r links uses now o there bare others unique.
-      subst (λ (u : Tables). HasUniqueNames u) (sym (tables_after-removal t p r links uses now o there bare others))
-      (HasUniqueNames-removal t p r links uses now o there bare others unique);
+      λ t p id links uses now o bare others unique.
+      subst (λ (u : Tables). HasUniqueNames u) (sym (tables_after-removal t p id links uses now o bare others))
+      (HasUniqueNames-removal t p id links uses now o bare others unique);
 }
