@@ -53,6 +53,7 @@ fn shape_of(word: &str) -> Option<Shape> {
         "read" => (17, &[Field::Long, Field::Long, Field::Middle]),
         "write" => (18, &[Field::Long, Field::Long, Field::Data]),
         "statfs" => (21, &[]),
+        "flushcache" => (29, &[]),
         "leave" => (32, &[]),
         _ => return None,
     };

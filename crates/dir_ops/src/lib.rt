@@ -3,6 +3,7 @@
 
 mod create;
 mod entries;
+mod mkdir;
 mod new_entry;
 mod places;
 mod plans;

@@ -7,13 +7,15 @@ ghost use Rattle.s3_rows.specs.Rows.{IsId};
 ghost use Rattle.s3_rows.specs.Tables.{IsOrdered};
 ghost use Rattle.s3_rows.specs.Told.{IfTold, has_failed};
 ghost use Rattle.s3_rows.specs.Validity.{HasUniqueNames};
+ghost use Rattle.op_frames.specs.declared.reply.Reply.TheVariants as replies;
+ghost use Rattle.tree_rows.specs.Attrs.{attr_of_row};
 ghost use Rattle.ref_counts.specs.Names.{raised};
 ghost use Rattle.ref_counts.specs.Plans.{HasFitReply, is_fit};
 ghost use Rattle.row_steps.specs.RowChanges.{creation, new_file_row, touched_row, with_drawn};
 ghost use Rattle.dir_ops.specs.Plans.{entry_plan};
 
 use op_frames::Reply;
-use ref_counts::{Plan, name_up};
+use ref_counts::{Plan, attr_of, name_up};
 use s3_base::{ByteList, Kind, Sequence};
 use s3_rows::{Batch, Change, ContentRow, InodeRow, Keeper, KeeperFault, Params};
 use std::alloc::{AllocError, Global};
@@ -119,4 +121,12 @@ pub fn with_reply(alloc: Global, batch: Option<Batch>, reply: Reply) -> Plan
         },
         None => Plan::Worn,
     }
+}
+
+/// The batch is committed, and the reply has the attributes of the row; or the name is worn.
+pub fn attributed(alloc: Global, batch: Option<Batch>, row: &InodeRow) -> Plan
+    ensures plan { result ≡ entry_plan batch (replies.Attr (attr_of_row row.now)) }
+    ensures fit { HasFitReply result }
+{
+    with_reply(alloc, batch, Reply::Attr(attr_of(row)))
 }

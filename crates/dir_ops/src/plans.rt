@@ -13,13 +13,14 @@ ghost use Rattle.ref_counts.specs.Plans.{IsPlanOf, HasFitReply};
 ghost use Rattle.dir_ops.specs.Plans.{is_planned};
 
 use crate::create::plan_create;
+use crate::mkdir::plan_mkdir;
 use crate::new_entry::NewInode;
 use op_frames::Op;
 use ref_counts::{Handles, Plan};
 use s3_rows::{Keeper, KeeperFault};
 use std::alloc::Global;
 
-/// The plan of an operation of a pass on entries of directories, at a time: now Create alone. It commits nothing.
+/// The plan of an operation of a pass on entries of directories, at a time: now Create and Mkdir. It commits nothing.
 pub fn plan<K: Keeper>(
     alloc: Global,
     keeper: &mut K,
@@ -47,6 +48,24 @@ pub fn plan<K: Keeper>(
             alloc,
             keeper,
             handles,
+            *parent,
+            name,
+            &NewInode {
+                mode: *mode,
+                uid: *uid,
+                gid: *gid,
+                now,
+            },
+        ),
+        Op::Mkdir {
+            parent,
+            name,
+            mode,
+            uid,
+            gid,
+        } => plan_mkdir(
+            alloc,
+            keeper,
             *parent,
             name,
             &NewInode {

@@ -26,7 +26,7 @@ use Rattle.volume_core.specs.Files.{bytes_at, AreSame, HasBytes}
 use Rattle.volume_core.specs.Plans.{IsTaken, IsFault, IsFull, IsOpening, IsFulfilled, is_by_plan, inode_opened, inode_of_plan, opened_by, closed_by}
 use Rattle.volume_core.specs.Standing.{StandsFor}
 use Rattle.volume_core.specs.Refusals.{IsStill, IsOutcome}
-use Rattle.volume_core.proofs.Effects.{Fulfils, fulfils}
+use Rattle.volume_core.proofs.Effects.{Fulfils, bytes_kept, fulfils}
 use Rattle.volume_core.proofs.Standing.{told_fact, fact_told, is_still, stepped, told_after}
 
 module _ {K : Type 0} (told : K → Option Told) (before after : RowCore K) (whole : Tree) (s : StandsFor told before whole) (pass : ℕ) (op : Op) (now : ℕ) where
@@ -67,7 +67,7 @@ module _ {K : Type 0} (told : K → Option Told) (before after : RowCore K) (who
   taken (plans.Commit batch reply drop) (Err refusal) planned is still goes = fault_outcome refusal is.0 (is_still told before after whole s is.1 still.0 still.1)
 
   -- a plan that is fulfilled
-  module _ (effects : first_failure (checks whole pass op) ≡ None → Fulfils s.now.tables whole s.served.valid s.represents s.served.named before.handles s.handles before.files s.bytes pass now op) (files : after.files ≡ before.files) where
+  module _ (carried : IsTrue (is_by_plan op)) (effects : first_failure (checks whole pass op) ≡ None → Fulfils s.now.tables whole s.served.valid s.represents s.served.named before.handles s.handles pass now op) (files : after.files ≡ before.files) where
     not_full : (plan : Plan) → IsPlanOf s.now.tables whole pass op now plan → IsFull plan before.handles → ⊥
     not_full (plans.Refuse errno) planned full = cc full.1
     not_full plans.Worn planned full = cc full.1
@@ -91,7 +91,7 @@ module _ {K : Type 0} (told : K → Option Told) (before after : RowCore K) (who
         absurd (cc clash)
     on_success (plans.Commit batch reply drop) given planned is own passes = (
       subst (λ h. HasHandles h (effect whole pass op now)) (sym (own ∙ ap (λ (r : Reply). closed_by pass op (opened_by (inode_opened r) pass before.handles)) planned.1)) (effects passes).handles,
-      subst (λ f. HasBytes f (effect whole pass op now)) (sym files) (effects passes).has_bytes,
+      subst (λ f. HasBytes f (effect whole pass op now)) (sym files) (bytes_kept whole before.files s.well s.bytes pass now op carried passes),
     )
 
     pub fulfilled : (plan : Plan) (result : Result Reply Refusal) → IsPlanOf s.now.tables whole pass op now plan
@@ -124,8 +124,8 @@ module _ {K : Type 0} (told : K → Option Told) (before after : RowCore K) (who
     (same : middle ≡ told before.keeper) (is : IsFulfilled plan pass op middle (told after.keeper) before.handles after.handles result) (files : after.files ≡ before.files) where
   by_plan : IsTrue (is_by_plan op) → IsPlanOf s.now.tables whole pass op now plan → IsOutcome told before after whole pass op now result
   by_plan planned own =
-      fulfilled told before after whole s pass op now
-      (fulfils s.now.tables whole s.served.valid s.represents s.served.named before.handles s.handles before.files s.bytes pass now op planned) files plan result own
+      fulfilled told before after whole s pass op now planned
+      (fulfils s.now.tables whole s.served.valid s.represents s.served.named before.handles s.handles pass now op planned) files plan result own
       (subst (λ t. IsFulfilled plan pass op t (told after.keeper) before.handles after.handles result) same is)
 
   pub inodes_so : IsTrue (inode_plans.is_planned op)

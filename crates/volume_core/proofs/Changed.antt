@@ -1,5 +1,5 @@
 -- Bytes of files, in memory and in the tree.
-use Rattle.std.proofs.Common.{◌≡◌, ℕ, ◌+◌, ◌-◌, ◌≤◌, ◌<◌, max, List, [], ◌++◌, length, take, drop, replicate, Bool, true, false, cond, Option, None, Some, refl, sym, ap, ◌∙◌, subst, ⊎_elim, arith, append_assoc, append-nil, length-append}
+use Rattle.std.proofs.Common.{◌≡◌, ℕ, ◌+◌, ◌-◌, ◌≤◌, ◌<◌, max, List, [], ◌++◌, length, take, drop, replicate, Bool, true, false, cond, Option, None, Some, refl, sym, ap, ◌∙◌, subst, inl, inr, ⊎_elim, arith, append_assoc, append-nil, length-append}
 use Rattle.std.specs.Prelude.{◌==◌, option_map, option_and_then}
 use Rattle.std.proofs.lemmas.Bool.{eqb-true, eq-eqb}
 use Rattle.std.proofs.lemmas.Bool.{cases_lt}
@@ -7,6 +7,7 @@ use Rattle.std.proofs.lemmas.List.{replicate-append-replicate, take-append-le, t
 use Rattle.plain_tree.specs.Tree as tree
 use Rattle.plain_tree.specs.Tree.{Node, Tree, node_at, changed_by, change_node, touched}
 use Rattle.plain_tree.specs.Files.{padded, written_at, resized, bytes_of, file_at, with_bytes}
+use Rattle.tree_laws.specs.Files.{KeepsFiles}
 use Rattle.tree_laws.proofs.Node.Reading.{node_at-changed_by_same, changed_by-changes_one}
 use Rattle.volume_core.specs.Files.{Files, bytes_at, IsChanged, AreSame, HasBytes}
 
@@ -123,10 +124,16 @@ module _ (f : Node → Node) (inode : ℕ) (whole : Tree) where
 
 -- ---- both
 
--- the files of one tree are those of another
-pub same_bytes : (files : Files) (whole next : Tree) → HasBytes files whole → whole.next_inode ≤ next.next_inode → ((x : ℕ) (b : List ℕ) → file_at next x ≡ Some b → file_at whole x ≡ Some b)
-    → HasBytes files next
-same_bytes files whole next has more same = record { bytes = λ x b is. has.bytes x b (same x b is); fresh = λ x above. has.fresh x (omega (arith, more, above)) }
+-- files that keep their bytes are those of the next tree too
+pub kept_bytes : (files : Files) (whole next : Tree) → HasBytes files whole → KeepsFiles whole next → HasBytes files next
+kept_bytes files whole next has keeps = record { bytes = each; fresh = λ x above. has.fresh x (omega (arith, keeps.next_inode, above)) }
+  where
+    each : (x : ℕ) (b : List ℕ) → file_at next x ≡ Some b → bytes_at files x ≡ b
+    each x b is =
+        elim (keeps.files x b is) [
+          | inl same ↦ has.bytes x b same
+          | inr new ↦ has.fresh x new.0 ∙ sym new.1
+        ]
 
 bytes_changed : (g : List ℕ → List ℕ) (content : tree.Content) → bytes_of (with_bytes g content) ≡ option_map g (bytes_of content)
 bytes_changed g (tree.Regular bytes) = refl

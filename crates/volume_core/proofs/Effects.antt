@@ -1,10 +1,9 @@
--- Handles and bytes after operations that change no bytes.
-use Rattle.std.proofs.Common.{◌≡◌, ◌≢◌, ℕ, ◌+◌, ◌≤◌, List, [], ◌∷◌, ◌++◌, Bool, true, false, cond, Option, None, Some, refl, sym, ap, ◌∙◌, subst, arith}
-use Rattle.std.specs.Prelude.{IsTrue, ◌==◌, length, not, filter, option_map, option_and_then}
+-- Handles and bytes after operations that are carried out by their plans.
+use Rattle.std.proofs.Common.{◌≡◌, ◌≢◌, ℕ, ◌+◌, ◌≤◌, List, [], ◌∷◌, ◌++◌, false, Option, None, Some, refl, sym, ap, ◌∙◌, subst, arith}
+use Rattle.std.specs.Prelude.{IsTrue, ◌==◌, ◌&&◌, ◌||◌, length, not, filter, option_and_then}
 use Rattle.std.specs.Map.{remove_entry}
 use Rattle.std.specs.Ordering.{nat_cmp}
 use Rattle.std.specs.BTreeMap.{insert_entry, is_at}
-use Rattle.std.proofs.lemmas.Bool.{eqb-true, eq-eqb}
 use Rattle.std.proofs.lemmas.Bool.Decides.{nat_tests}
 use Rattle.op_frames.specs.declared.operation.Op.{Op}
 use Rattle.op_frames.specs.declared.operation.Op.TheVariants as ops
@@ -15,49 +14,46 @@ use Rattle.op_frames.specs.declared.reply.Reply.TheVariants as replies
 use Rattle.plain_tree.specs.Tree as tree
 use Rattle.plain_tree.specs.Tree.{Content, Node, Tree, node_at, handle_of, change_node, with_node, with_handle, without_handle, named, touched, stamped}
 use Rattle.plain_tree.specs.Attributes.{attr_of}
+use Rattle.plain_tree.specs.Built.{is_built}
+use Rattle.plain_tree.specs.Classes.{Bytes, Class, Trees, class_of, is_of_entries, is_of_inodes}
+use Rattle.plain_tree.specs.WellFormed.{IsWellFormed}
 use Rattle.plain_tree.specs.Checks.{first_failure, node_check, file_check, hand_check, open_check}
 use Rattle.plain_tree.specs.Files.{bytes_of, file_at, open_file}
-use Rattle.plain_tree.specs.Operations.{checks, effect, success, attr_reply, new_file, make_checks}
+use Rattle.plain_tree.specs.Operations.{checks, effect, success, attr_reply, new_directory, new_file, make_checks}
 use Rattle.s3_rows.specs.Rows.{Inode}
 use Rattle.s3_rows.specs.Tables.{Tables}
 use Rattle.s3_rows.specs.Selections.{inode_at}
 use Rattle.s3_rows.specs.Validity.{IsValid}
 use Rattle.tree_rows.specs.Shapes.{Represents}
 use Rattle.op_checks.proofs.Nodes.{node_absent}
-use Rattle.tree_laws.proofs.Node.Keys.{numbers_tell, lookup-insert_entry_same, lookup-insert_entry_other}
+use Rattle.tree_laws.proofs.File.Unwritten.{KeepsFiles-effect}
 use Rattle.inode_ops.proofs.Opened.{stays_released, released_is, stays_left, left_is}
 use Rattle.ref_counts.specs.Handles.{OpenHandles, HasHandles, opened, closed, closed_all}
 use Rattle.ref_counts.specs.Plans.{AreNamed}
-use Rattle.volume_core.specs.Files.{Files, bytes_at, HasBytes}
+use Rattle.volume_core.specs.Files.{Files, HasBytes}
 use Rattle.volume_core.specs.Plans.{is_by_plan, inode_opened, opened_by, closed_by}
-use Rattle.volume_core.proofs.Changed.{node_changed, next_kept, next_handle_kept, handles_kept, same_bytes}
+use Rattle.volume_core.proofs.Changed.{next_handle_kept, handles_kept, kept_bytes}
 
--- ---- changes of a node that leave its bytes
+-- ---- bytes
 
-module _ (f : Node → Node) (keeps : (node : Node) → bytes_of (f node).content ≡ bytes_of node.content) (inode : ℕ) (whole : Tree) where
-  of_found : (found : Option Node) → option_and_then (λ (node : Node). bytes_of node.content) (option_map f found) ≡ option_and_then (λ (node : Node). bytes_of node.content) found
-  of_found None = refl
-  of_found (Some node) = keeps node
+no_class : (class : Class) → (is_of_inodes class || is_of_entries class) ≡ false → (op : Op) → IsTrue (is_by_plan op) → class_of op ≢ class
+no_class class neither op planned is =
+    let clash : IsTrue false =
+    subst (λ b. IsTrue (b && is_built op)) (ap (λ c. is_of_inodes c || is_of_entries c) is ∙ neither) planned in
+    cc clash
 
-  by_test : (d : Bool) (found : Option Node) → option_and_then (λ (node : Node). bytes_of node.content) (cond d (option_map f found) found) ≡ option_and_then (λ (node : Node). bytes_of node.content) found
-  by_test true found = of_found found
-  by_test false found = refl
+-- what is carried out by a plan writes no bytes
+pub bytes_kept : (whole : Tree) (files : Files) → IsWellFormed whole → HasBytes files whole → (pass now : ℕ) (op : Op) → IsTrue (is_by_plan op) → first_failure (checks whole pass op) ≡ None
+    → HasBytes files (effect whole pass op now)
+bytes_kept whole files well has pass now op planned passes =
+    kept_bytes files whole (effect whole pass op now) has (KeepsFiles-effect whole pass now op well.nodes (no_class Bytes refl op planned) (no_class Trees refl op planned) passes)
 
-  file_same : (x : ℕ) → file_at (change_node inode f whole) x ≡ file_at whole x
-  file_same x = ap (option_and_then (λ (node : Node). bytes_of node.content)) (node_changed f inode whole x) ∙ by_test (x == inode) (node_at whole x)
+-- ---- changes of a node leave the handles
 
-  bytes_kept : (files : Files) → HasBytes files whole → HasBytes files (change_node inode f whole)
-  bytes_kept files has = same_bytes files whole (change_node inode f whole) has (subst (λ n. whole.next_inode ≤ n) (sym (next_kept f inode whole)) (omega arith)) (λ x b is. sym (file_same x) ∙ is)
-
-  own_handles : (h : OpenHandles) → HasHandles h whole → HasHandles h (change_node inode f whole)
-  own_handles h has = (next_handle_kept f inode whole ∙ has.0, handles_kept f inode whole ∙ has.1)
+own_handles : (f : Node → Node) (inode : ℕ) (whole : Tree) (h : OpenHandles) → HasHandles h whole → HasHandles h (change_node inode f whole)
+own_handles f inode whole h has = (next_handle_kept f inode whole ∙ has.0, handles_kept f inode whole ∙ has.1)
 
 -- ---- a new file
-
-named_bytes : (name : List ℕ) (inode : ℕ) (content : Content) → bytes_of (named name inode content) ≡ bytes_of content
-named_bytes name inode (tree.Regular bytes) = refl
-named_bytes name inode (tree.Directory entries) = refl
-named_bytes name inode (tree.Link target) = refl
 
 module _ (whole : Tree) (pass parent : ℕ) (name : List ℕ) (mode uid gid now : ℕ) where
   abbrev entered : Node → Node
@@ -68,30 +64,11 @@ module _ (whole : Tree) (pass parent : ℕ) (name : List ℕ) (mode uid gid now 
 
   create_handles : (h : OpenHandles) → HasHandles h whole → HasHandles (opened (record { inode = whole.next_inode; pass = pass }) h) (effect whole pass (ops.Create parent name mode uid gid) now)
   create_handles h has =
-      own_handles entered (λ node. named_bytes name whole.next_inode node.content) parent made (opened (record { inode = whole.next_inode; pass = pass }) h) (
+      own_handles entered parent made (opened (record { inode = whole.next_inode; pass = pass }) h) (
         ap (λ n. n + 1) has.0,
         ap (λ n. insert_entry nat_cmp whole.handles n (record { inode = whole.next_inode; pass = pass })) has.0
             ∙ ap (λ (hs : List (ℕ × tree.Handle)). insert_entry nat_cmp hs h.next (record { inode = whole.next_inode; pass = pass })) has.1,
       )
-
-  create_bytes : (files : Files) → HasBytes files whole → HasBytes files (effect whole pass (ops.Create parent name mode uid gid) now)
-  create_bytes files has = bytes_kept entered (λ node. named_bytes name whole.next_inode node.content) parent made files (record { bytes = each; fresh = λ x above. has.fresh x (omega (arith, above)) })
-    where
-      by_number : (x : ℕ) (b : List ℕ) (d : Bool) → (x == whole.next_inode) ≡ d → file_at made x ≡ Some b → bytes_at files x ≡ b
-      by_number x b true here is =
-          let same : x ≡ whole.next_inode = eqb-true x whole.next_inode here in
-          let new : file_at made x ≡ Some [] =
-          ap (file_at made) same ∙ ap (option_and_then (λ (node : Node). bytes_of node.content)) (lookup-insert_entry_same nat_cmp numbers_tell whole.next_inode (new_file mode uid gid now) whole.nodes) in
-          let empty : [] ≡ b = cc (sym new ∙ is) in
-          has.fresh x (subst (λ n. whole.next_inode ≤ n) (sym same) (omega arith)) ∙ empty
-      by_number x b false apart is =
-          let other : x ≢ whole.next_inode = λ same. let clash : true ≡ false = sym (eq-eqb x whole.next_inode same) ∙ apart in cc clash in
-          let old : file_at made x ≡ file_at whole x =
-          ap (option_and_then (λ (node : Node). bytes_of node.content)) (lookup-insert_entry_other nat_cmp numbers_tell whole.next_inode x (new_file mode uid gid now) whole.nodes other) in
-          has.bytes x b (sym old ∙ is)
-
-      each : (x : ℕ) (b : List ℕ) → file_at made x ≡ Some b → bytes_at files x ≡ b
-      each x b is = by_number x b (x == whole.next_inode) refl is
 
 -- ---- the last check
 
@@ -130,7 +107,7 @@ open_handles whole pass inode now h has passes = by_node (node_at whole inode) r
 
 -- ---- Release and Leave
 
-module _ (t : Tables) (whole : Tree) (v : IsValid t) (same : Represents t whole) (all_named : AreNamed t) (h : OpenHandles) (has : HasHandles h whole) (files : Files) (bytes : HasBytes files whole) (pass now : ℕ) where
+module _ (t : Tables) (whole : Tree) (v : IsValid t) (same : Represents t whole) (all_named : AreNamed t) (h : OpenHandles) (has : HasHandles h whole) (pass now : ℕ) where
   module _ (number : ℕ) (passes : first_failure (checks whole pass (ops.Release number)) ≡ None) where
     released : effect whole pass (ops.Release number) now ≡ without_handle number whole
     released = by_handle (handle_of whole pass number) refl
@@ -152,24 +129,21 @@ module _ (t : Tables) (whole : Tree) (v : IsValid t) (same : Represents t whole)
         by_handle None here = absurd (no_file (open_file whole pass number) passes (ap (option_and_then (λ (x : tree.Handle). file_at whole x.inode)) here))
         by_handle (Some handle) here = by_row handle here (inode_at t handle.inode) refl
 
-    release_effect : HasHandles (closed number h) (effect whole pass (ops.Release number) now) × HasBytes files (effect whole pass (ops.Release number) now)
-    release_effect =
-        subst (λ (next : Tree). HasHandles (closed number h) next × HasBytes files next) (sym released)
-        ((has.0, ap (remove_entry (is_at (nat_cmp number))) has.1), record { bytes = bytes.bytes; fresh = bytes.fresh })
+    release_effect : HasHandles (closed number h) (effect whole pass (ops.Release number) now)
+    release_effect = subst (HasHandles (closed number h)) (sym released) (has.0, ap (remove_entry (is_at (nat_cmp number))) has.1)
 
-  leave_effect : HasHandles (closed_all pass h) (effect whole pass ops.Leave now) × HasBytes files (effect whole pass ops.Leave now)
+  leave_effect : HasHandles (closed_all pass h) (effect whole pass ops.Leave now)
   leave_effect =
-      subst (λ (next : Tree). HasHandles (closed_all pass h) next × HasBytes files next) (sym (left_is whole pass now (stays_left t whole pass v same all_named)))
-      ((has.0, ap (filter (λ (e : ℕ × tree.Handle). not (e.1.pass == pass))) has.1), record { bytes = bytes.bytes; fresh = bytes.fresh })
+      subst (HasHandles (closed_all pass h)) (sym (left_is whole pass now (stays_left t whole pass v same all_named)))
+      (has.0, ap (filter (λ (e : ℕ × tree.Handle). not (e.1.pass == pass))) has.1)
 
   -- ---- all of them
 
-  -- What an operation that is carried out by its plan makes of handles and bytes, where no check fails. It opens a file only where a
-  -- handle number is left.
+  -- What an operation that is carried out by its plan makes of handles, where no check fails. It opens a file only where a handle
+  -- number is left.
   pub record Fulfils (op : Op) : Type 0 where
     pub hand : (inode : ℕ) → inode_opened (success whole pass op now) ≡ Some inode → hand_check whole ≡ None
     pub handles : HasHandles (closed_by pass op (opened_by (inode_opened (success whole pass op now)) pass h)) (effect whole pass op now)
-    pub has_bytes : HasBytes files (effect whole pass op now)
 
   not_opened : (x : Tree) (inode : ℕ) → inode_opened (attr_reply x inode) ≡ None
   not_opened x inode = by_node (node_at x inode)
@@ -179,38 +153,36 @@ module _ (t : Tables) (whole : Tree) (v : IsValid t) (same : Represents t whole)
       by_node (Some node) = refl
 
   -- nothing is opened or closed
-  keeps : (op : Op) → inode_opened (success whole pass op now) ≡ None → closed_by pass op h ≡ h → HasHandles h (effect whole pass op now) → HasBytes files (effect whole pass op now) → Fulfils op
-  keeps op none open_still handles kept = record {
+  keeps : (op : Op) → inode_opened (success whole pass op now) ≡ None → closed_by pass op h ≡ h → HasHandles h (effect whole pass op now) → Fulfils op
+  keeps op none open_still handles = record {
     hand = λ inode some. let clash : None ≡ Some inode = sym none ∙ some in absurd (cc clash);
     handles = subst (λ (x : OpenHandles). HasHandles x (effect whole pass op now)) (sym (ap (λ o. closed_by pass op (opened_by o pass h)) none ∙ open_still)) handles;
-    has_bytes = kept;
   }
 
-  -- one node is changed, and its bytes are not
-  changes : (op : Op) (f : Node → Node) (inode : ℕ) → ((node : Node) → bytes_of (f node).content ≡ bytes_of node.content) → effect whole pass op now ≡ change_node inode f whole
-      → success whole pass op now ≡ attr_reply (effect whole pass op now) inode → closed_by pass op h ≡ h → Fulfils op
-  changes op f inode same_bytes does gives open_still =
-      keeps op (ap inode_opened gives ∙ not_opened (effect whole pass op now) inode) open_still
-      (subst (HasHandles h) (sym does) (own_handles f same_bytes inode whole h has)) (subst (HasBytes files) (sym does) (bytes_kept f same_bytes inode whole files bytes))
+  -- one node is changed, with others there before
+  changes : (op : Op) (f : Node → Node) (inode of : ℕ) (more : Tree) → HasHandles h more → effect whole pass op now ≡ change_node inode f more
+      → success whole pass op now ≡ attr_reply (effect whole pass op now) of → closed_by pass op h ≡ h → Fulfils op
+  changes op f inode of more own does gives open_still =
+      keeps op (ap inode_opened gives ∙ not_opened (effect whole pass op now) of) open_still (subst (HasHandles h) (sym does) (own_handles f inode more h own))
 
   pub fulfils : (op : Op) → IsTrue (is_by_plan op) → first_failure (checks whole pass op) ≡ None → Fulfils op
-  fulfils (ops.Getattr inode) is passes = keeps (ops.Getattr inode) (not_opened whole inode) refl has bytes
-  fulfils (ops.Chmod inode mode) is passes = changes (ops.Chmod inode mode) (λ node. stamped now (record node { mode = mode })) inode (λ node. refl) refl refl refl
-  fulfils (ops.Chown inode uid gid) is passes = changes (ops.Chown inode uid gid) (λ node. stamped now (record node { uid = uid; gid = gid })) inode (λ node. refl) refl refl refl
-  fulfils (ops.Utimes inode mtime) is passes = changes (ops.Utimes inode mtime) (λ node. stamped now (record node { mtime = mtime })) inode (λ node. refl) refl refl refl
-  fulfils ops.Statfs is passes = keeps ops.Statfs refl refl has bytes
+  fulfils (ops.Getattr inode) is passes = keeps (ops.Getattr inode) (not_opened whole inode) refl has
+  fulfils (ops.Chmod inode mode) is passes = changes (ops.Chmod inode mode) (λ node. stamped now (record node { mode = mode })) inode inode whole has refl refl refl
+  fulfils (ops.Chown inode uid gid) is passes = changes (ops.Chown inode uid gid) (λ node. stamped now (record node { uid = uid; gid = gid })) inode inode whole has refl refl refl
+  fulfils (ops.Utimes inode mtime) is passes = changes (ops.Utimes inode mtime) (λ node. stamped now (record node { mtime = mtime })) inode inode whole has refl refl refl
+  fulfils ops.Statfs is passes = keeps ops.Statfs refl refl has
   fulfils (ops.Create parent name mode uid gid) is passes = record {
     hand = λ inode some. create_hand whole pass parent name mode uid gid passes;
     handles = create_handles whole pass parent name mode uid gid now h has;
-    has_bytes = create_bytes whole pass parent name mode uid gid now files bytes;
   }
+  fulfils (ops.Mkdir parent name mode uid gid) is passes =
+      changes (ops.Mkdir parent name mode uid gid) (entered whole pass parent name mode uid gid now) parent whole.next_inode (with_node (new_directory mode uid gid now) whole) (has.0, has.1) refl refl refl
   fulfils (ops.Open inode) is passes = record {
     hand = λ x some. open_hand whole pass inode passes;
     handles = open_handles whole pass inode now h has passes;
-    has_bytes = record { bytes = bytes.bytes; fresh = bytes.fresh };
   }
-  fulfils (ops.Release number) is passes = record { hand = λ inode some. absurd (cc some); handles = (release_effect number passes).0; has_bytes = (release_effect number passes).1 }
-  fulfils ops.Leave is passes = record { hand = λ inode some. absurd (cc some); handles = leave_effect.0; has_bytes = leave_effect.1 }
+  fulfils (ops.Release number) is passes = record { hand = λ inode some. absurd (cc some); handles = release_effect number passes }
+  fulfils ops.Leave is passes = record { hand = λ inode some. absurd (cc some); handles = leave_effect }
   fulfils _ is passes = absurd (cc is)
 
 -- the data of a write in a frame fit into one frame

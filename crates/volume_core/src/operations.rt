@@ -135,7 +135,7 @@ impl<K: Keeper> RowCore<K> {
             | Op::Release { .. }
             | Op::Statfs
             | Op::Leave => self.on_inodes(pass, op, now),
-            Op::Create { .. } => self.on_entries(pass, op, now),
+            Op::Mkdir { .. } | Op::Create { .. } => self.on_entries(pass, op, now),
             Op::Truncate { inode, size } => self.truncate(*inode, *size, now),
             Op::Read {
                 handle,

@@ -5,10 +5,18 @@ use Rattle.ref_counts.proofs.Named.{if_ok}
 use Rattle.ref_counts.proofs.Told.{IfTold-weaker}
 use Rattle.dir_ops.proofs.plans.plan.Goals as goal
 
-pub returns-clause-plan : goal.returns-clause-plan
-returns-clause-plan g c =
+pub returns-in-Create-clause-plan : goal.returns-in-Create-clause-plan
+returns-in-Create-clause-plan g c =
     if_ok _ _ (λ p own.
     IfTold-weaker (g.K.Keeper.told c.args.keeper.now) _ _
     (λ t planned v unique whole same well has. subst (λ (op : Op). IsPlanOf t whole c.args.pass op c.args.now p) (sym c.in-Create.is) (planned v unique whole c.args.pass same well has))
     own)
     c.plan_create.result c.plan_create.ensures.plan
+
+pub returns-in-Mkdir-clause-plan : goal.returns-in-Mkdir-clause-plan
+returns-in-Mkdir-clause-plan g c =
+    if_ok _ _ (λ p own.
+    IfTold-weaker (g.K.Keeper.told c.args.keeper.now) _ _
+    (λ t planned v unique whole same well has. subst (λ (op : Op). IsPlanOf t whole c.args.pass op c.args.now p) (sym c.in-Mkdir.is) (planned v unique whole c.args.pass same well))
+    own)
+    c.plan_mkdir.result c.plan_mkdir.ensures.plan
