@@ -26,8 +26,8 @@ use Rattle.row_lemmas.proofs.Tables.{tables_after-tables_after}
 use Rattle.tree_rows.specs.Shapes.{Represents}
 use Rattle.tree_rows.proofs.Rooted.{own_entry}
 use Rattle.tree_rows.proofs.Whole.{number_of}
-use Rattle.ref_counts.specs.Plans.{IsStep}
-use Rattle.ref_counts.specs.Removals.{attrs_of, removal}
+use Rattle.ref_counts.specs.Plans.{AreNamed, IsStep}
+use Rattle.ref_counts.specs.Removals.{removal}
 use Rattle.row_steps.specs.Owed.{IsBare, Owes, times}
 use Rattle.row_steps.specs.RowChanges.{dropping, touched_row}
 use Rattle.row_steps.proofs.Dropping.{HasUniqueNames-dropping, Owes-dropping, Represents-dropping, lower}
@@ -140,11 +140,13 @@ module _ (t : Tables) (whole : Tree) (p : Parameters) (d r : Inode) (c : Content
     slots = refl;
     contents = length-without by_entry (c.parent, c.name_id) t.contents;
     attrs = omega arith;
-    named =
-        λ all.
-        list_all-put by_inode (λ (x : Inode). not (x.refcount == 0)) (touched_row now d) t.inodes
-        (find_passes_all (has_key by_inode parent) (λ (x : Inode). not (x.refcount == 0)) t.inodes d all is.found) all;
   })
+
+  pub AreNamed-dropped : AreNamed t → AreNamed dropped
+  AreNamed-dropped all =
+      subst AreNamed (sym dropped_is)
+      (list_all-put by_inode (λ (x : Inode). not (x.refcount == 0)) (touched_row now d) t.inodes
+      (find_passes_all (has_key by_inode parent) (λ (x : Inode). not (x.refcount == 0)) t.inodes d all is.found) all)
 
   -- ---- and without the inode
 
@@ -195,7 +197,6 @@ module _ (t : Tables) (whole : Tree) (p : Parameters) (d r : Inode) (c : Content
           slots = before.slots;
           contents = before.contents;
           attrs = omega (arith, before.attrs, attrs-removal dropped p r.id (c.inode ∷ []) [] [] Owes-dropped bare_after others);
-          named = λ all. list_all-without by_inode (λ (x : Inode). not (x.refcount == 0)) r.id dropped.inodes (before.named all);
         }
 
     pub IsStep-left : IsWellFormed (without_node c.inode (drop_entry parent name now whole))
@@ -208,4 +209,5 @@ module _ (t : Tables) (whole : Tree) (p : Parameters) (d r : Inode) (c : Content
         (Represents-removal dropped p r.id (c.inode ∷ []) [] [] Owes-dropped bare_after others (drop_entry parent name now whole) Represents-dropped))
         well
         (λ unique. HasUniqueNames-removal dropped p r.id (c.inode ∷ []) [] [] Owes-dropped bare_after others (HasUniqueNames-dropped unique))
-        IsLess-left)
+        IsLess-left
+        (λ all. list_all-without by_inode (λ (x : Inode). not (x.refcount == 0)) r.id dropped.inodes (AreNamed-dropped all)))

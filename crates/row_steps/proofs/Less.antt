@@ -1,11 +1,9 @@
 -- Steps by which rows go and no number is drawn.
-use Rattle.std.proofs.Common.{◌≡◌, ◌≤◌, List, [], length, Bool, true, false, Option, refl, ap, arith}
-use Rattle.std.specs.Prelude.{not, option_map, unwrap_or}
-use Rattle.std.proofs.lemmas.List.Filters.{length-filter_both}
+use Rattle.std.proofs.Common.{◌≡◌, ◌≤◌, [], length, Option, refl, ap, arith}
+use Rattle.std.specs.Prelude.{option_map, unwrap_or}
 use Rattle.plain_tree.specs.Tree.{Tree}
 use Rattle.plain_tree.specs.WellFormed.{IsWellFormed}
 use Rattle.s3_rows.specs.Rows.{Parameters}
-use Rattle.s3_rows.specs.Keyed.{Order, has_key, without}
 use Rattle.s3_rows.specs.Tables.{Tables}
 use Rattle.s3_rows.specs.Validity.{HasUniqueNames}
 use Rattle.tree_rows.specs.Shapes.{Represents}
@@ -23,19 +21,18 @@ pub record IsLess (t u : Tables) : Type 0 where
   pub slots : u.slots ≡ t.slots
   pub contents : length u.contents ≤ length t.contents
   pub attrs : length u.attrs ≤ length t.attrs
-  pub named : AreNamed t → AreNamed u
 
 -- a step by which no number is drawn
 pub IsStep-less : (t u : Tables) (next : Tree) (p : Parameters) → Owes u p [] [] → Represents u next → IsWellFormed next
-    → (HasUniqueNames t → HasUniqueNames u) → IsLess t u → IsStep t u next 0
-IsStep-less t u next p o same well unique less =
+    → (HasUniqueNames t → HasUniqueNames u) → IsLess t u → (AreNamed t → AreNamed u) → IsStep t u next 0
+IsStep-less t u next p o same well unique less named =
     let inode : next_inode_of u ≡ next_inode_of t = ap (λ (found : Option Parameters). unwrap_or (option_map (λ q. q.next_inode) found) 0) less.params in
     let id : next_name_of u ≡ next_name_of t = ap (λ (found : Option Parameters). unwrap_or (option_map (λ q. q.next_name) found) 0) less.params in
     record {
       valid = IsValid_from_tree u next (HasPremises-Owes u p o) same well;
       represents = same;
       unique = unique;
-      named = less.named;
+      named = named;
       rest = record {
         params = ap (option_map settings) less.params;
         next_inode = omega (arith, inode);
@@ -47,3 +44,6 @@ IsStep-less t u next p o same well unique less =
       };
       small = record { names = omega (arith, id); uses = omega (arith, less.contents, less.attrs) };
     }
+
+pub IsLess-refl : (t : Tables) → IsLess t t
+IsLess-refl t = record { params = refl; inode_blocks = refl; blocks = refl; objects = refl; slots = refl; contents = omega arith; attrs = omega arith }

@@ -5,6 +5,7 @@ pub mod Less
 pub mod Living
 pub mod Making
 pub mod NewNodes
+pub mod OldFiles
 pub mod OldNodes
 pub mod Owed
 pub mod Place

@@ -2,25 +2,30 @@
 use Rattle.std.proofs.Common.{◌≡◌, ◌≢◌, ℕ, ◌+◌, List, [], ◌∷◌, Bool, true, false, cond, Option, None, Some, refl, sym, ap, ◌∙◌, arith, eqb-true, eq-eqb}
 use Rattle.std.specs.Prelude.{IsTrue, not, ◌||◌, ◌==◌, count_by, sum_by}
 use Rattle.std.specs.List.{list_all, list_any}
-use Rattle.std.proofs.lemmas.Bool.{and_from}
+use Rattle.std.specs.Map.{remove_entry, set_value}
+use Rattle.std.specs.BTreeMap.{is_at}
+use Rattle.std.specs.Ordering.{nat_cmp}
+use Rattle.std.proofs.lemmas.Bool.{and_from, and_parts}
 use Rattle.std.proofs.lemmas.List.Sums.{sum_by-cons}
 use Rattle.s3_base.specs.Numbers.{root}
 use Rattle.plain_tree.specs.Tree as tree
-use Rattle.plain_tree.specs.Tree.{Handle, Node, Tree, changed_by, change_node, node_at}
+use Rattle.plain_tree.specs.Tree.{Handle, Node, Tree, changed_by, change_node, node_at, without_node}
 use Rattle.plain_tree.specs.Attributes.{names_in}
 use Rattle.plain_tree.specs.Entries.{entries_of, is_named, is_open}
 use Rattle.plain_tree.specs.WellFormed.{entries_naming}
 use Rattle.s3_rows.specs.Rows.{Inode, Content, Parameters}
-use Rattle.s3_rows.specs.Tables.{Tables}
+use Rattle.s3_rows.specs.Keyed.{put}
+use Rattle.s3_rows.specs.Tables.{Tables, by_inode}
 use Rattle.s3_rows.specs.Selections.{inode_at}
 use Rattle.s3_rows.specs.Counts.{listed_inode_count}
 use Rattle.s3_rows.specs.Validity.{IsValid, any_kind, finds_of_entry, has_inode}
-use Rattle.row_lemmas.proofs.Tests.{list_all_weaker_both}
+use Rattle.row_lemmas.proofs.Tests.{list_all_weaker, list_all_weaker_both}
 use Rattle.tree_rows.specs.Premises.{finds_directory_and_name}
 use Rattle.tree_rows.specs.Shapes.{Represents}
 use Rattle.tree_rows.proofs.Rooted.{link_count_is, stored_count}
 use Rattle.tree_rows.proofs.Whole.{count_is}
 use Rattle.row_steps.specs.Owed.{Owes}
+use Rattle.row_steps.proofs.Owed.Inodes.{Keeps-put_there}
 
 -- ---- an inode is named where some entry names it
 
@@ -75,7 +80,18 @@ is_named-owes t p links uses whole x o children same other =
     ∙ ap (λ n. not (n == 0)) (count_is t finds o.unlike o.ordered.inodes whole same x)
     ∙ ap (λ b. not (cond b 1 (count_by (λ (c : Content). c.inode == x) t.contents) == 0)) (sym other)
 
+pub FindsChildren-put : (t : Tables) (r new : Inode) → inode_at t new.id ≡ Some r → new.kind ≡ r.kind → new.size ≡ r.size → FindsChildren t
+    → FindsChildren (record t { inodes = put by_inode new t.inodes })
+FindsChildren-put t r new there kind size children =
+    list_all_weaker (λ (c : Content). has_inode any_kind t c.inode) (λ (c : Content). has_inode any_kind (record t { inodes = put by_inode new t.inodes }) c.inode)
+    (λ c own. Keeps-put_there t r new there kind size (λ kind size. any_kind kind) c.inode refl own) t.contents children
+
 -- ---- of valid tables
+
+pub FindsChildren-IsValid : (t : Tables) → IsValid t → FindsChildren t
+FindsChildren-IsValid t v =
+    list_all_weaker (finds_of_entry t) (λ (c : Content). has_inode any_kind t c.inode)
+    (λ c own. (and_parts (finds_directory_and_name t c) (has_inode any_kind t c.inode) own).1) t.contents v.rows.entries
 
 -- a node is the root, or an entry names it, where its row counts one
 pub kept-refcount : (t : Tables) (whole : Tree) (x : ℕ) (r : Inode) → IsValid t → Represents t whole → inode_at t x ≡ Some r
@@ -103,3 +119,22 @@ is_open-change_node f i x whole = ap (λ (handles : List (ℕ × Handle)). list_
     handles : (found : Option Node) → (changed_by f found i whole).handles ≡ whole.handles
     handles None = refl
     handles (Some node) = refl
+
+-- ---- a node that is changed before it goes
+
+remove_entry-set_value : (test : ℕ → Bool) (es : List (ℕ × Node)) (w : Node) → remove_entry test (set_value test es w) ≡ remove_entry test es
+remove_entry-set_value test [] w = refl
+remove_entry-set_value test (e ∷ es) w = by_case (remove_entry-set_value test es w) (test e.0) refl
+  where
+    by_case : remove_entry test (set_value test es w) ≡ remove_entry test es → (b : Bool) → test e.0 ≡ b
+        → remove_entry test (cond b ((e.0, w) ∷ es) (e ∷ set_value test es w)) ≡ cond b es (e ∷ remove_entry test es)
+    by_case others true is = ap (λ c. cond c es ((e.0, w) ∷ remove_entry test es)) is
+    by_case others false is =
+        ap (λ c. cond c (set_value test es w) (e ∷ remove_entry test (set_value test es w))) is ∙ ap (λ xs. e ∷ xs) others
+
+pub without_node-change_node : (f : Node → Node) (inode : ℕ) (whole : Tree) → without_node inode (change_node inode f whole) ≡ without_node inode whole
+without_node-change_node f inode whole = by_node (node_at whole inode)
+  where
+    by_node : (found : Option Node) → without_node inode (changed_by f found inode whole) ≡ without_node inode whole
+    by_node None = refl
+    by_node (Some node) = ap (λ (es : List (ℕ × Node)). record whole { nodes = es }) (remove_entry-set_value (is_at (nat_cmp inode)) whole.nodes (f node))

@@ -19,6 +19,7 @@ use Rattle.s3_rows.specs.Validity.{IsValid, HasUniqueNames, any_kind, finds_of_i
 use Rattle.row_lemmas.proofs.Tests.{find_from_list_any, find_passes, list_all_from_list_any, list_all_weaker}
 use Rattle.tree_laws.proofs.Node.Kind.{empty_is, some_node}
 use Rattle.tree_laws.proofs.Walk.Passed.{CanUnmake, can_unmake}
+use Rattle.tree_laws.proofs.WellFormed.{IsWellFormed-effect}
 use Rattle.tree_rows.specs.Shapes.{Represents}
 use Rattle.tree_rows.proofs.Rooted.{own_entry}
 use Rattle.tree_rows.proofs.Whole.{node_is}
@@ -27,7 +28,6 @@ use Rattle.ref_counts.specs.Removals.{removal}
 use Rattle.row_steps.specs.Owed.{IsBare}
 use Rattle.row_steps.specs.RowChanges.{dropping}
 use Rattle.row_steps.proofs.Leaving.{IsLeaving, IsStep-left, child_there, child_number, entry_is}
-use Rattle.row_steps.proofs.NewNodes.{effect_well}
 use Rattle.row_steps.proofs.Place.{kind_there}
 use Rattle.row_steps.proofs.Removing.{apart_by_kind}
 
@@ -40,7 +40,7 @@ pub old_directory_step : (t : Tables) (whole : Tree) (p : Parameters) (directory
 old_directory_step t whole p directory child c n pass parent now name v unique well same made found bytes entry row passes =
     let after : Tables = tables_after (dropping directory c n now ++ removal t child.id (tables_after (dropping directory c n now) t)) t in
     subst (λ x. IsStep t after x 0) (sym effect_is)
-    (IsStep-left t whole p directory child c n now parent name is bare (subst IsWellFormed effect_is (effect_well whole pass now (ops.Rmdir parent name) well passes)))
+    (IsStep-left t whole p directory child c n now parent name is bare (subst IsWellFormed effect_is (IsWellFormed-effect whole pass now (ops.Rmdir parent name) well passes)))
   where
     can : CanUnmake whole parent name
     can = can_unmake whole pass parent name passes

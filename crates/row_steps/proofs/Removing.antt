@@ -1,25 +1,21 @@
 -- An inode that goes: its attributes with the uses of their names, its target, and its row.
-use Rattle.std.proofs.Common.{◌≡◌, ◌≤◌, ℕ, ◌+◌, List, [], ◌∷◌, ◌++◌, length, Bool, true, false, cond, Option, None, Some, refl, sym, ap, ◌∙◌, subst, arith, eqb-true}
-use Rattle.std.specs.Prelude.{IsTrue, not, ◌&&◌, ◌==◌, is_some, filter, find}
-use Rattle.std.specs.List.{list_all}
-use Rattle.std.specs.Cmp.{IsTotalOrder, tied_itself}
+use Rattle.std.proofs.Common.{◌≡◌, ◌≤◌, ℕ, List, [], ◌∷◌, ◌++◌, length, Bool, true, false, Option, None, Some, refl, sym, ap, ◌∙◌, arith, eqb-true}
+use Rattle.std.specs.Prelude.{IsTrue, not, ◌==◌, is_some, filter, find}
 use Rattle.std.proofs.lemmas.Bool.{and_parts}
-use Rattle.std.proofs.lemmas.List.Filters.{length-filter_both}
 use Rattle.s3_base.specs.declared.node_kind.Kind.{Kind}
-use Rattle.s3_base.specs.declared.node_kind.Kind.TheVariants as kinds
 use Rattle.plain_tree.specs.Tree.{Tree, without_node}
 use Rattle.s3_rows.specs.declared.change.Change.{Change}
 use Rattle.s3_rows.specs.declared.change.Change.TheVariants as changes
 use Rattle.s3_rows.specs.Rows.{Inode, Name, Target, Attr, Parameters}
-use Rattle.s3_rows.specs.Keyed.{Order, has_key, rises, without}
+use Rattle.s3_rows.specs.Keyed.{has_key, without}
 use Rattle.s3_rows.specs.Tables.{Tables, by_attr, by_inode, by_target}
 use Rattle.s3_rows.specs.Batches.{tables_after}
 use Rattle.s3_rows.specs.Selections.{inode_at, name_at, attr_at, target_at}
-use Rattle.s3_rows.specs.Validity.{HasUniqueNames, any_kind, differ, finds_of_attr, has_inode, have_same_bytes, is_link}
+use Rattle.s3_rows.specs.Validity.{HasUniqueNames, any_kind, differ, finds_of_attr, has_inode, have_same_bytes}
 use Rattle.row_lemmas.proofs.Tests.{eqb_comm, find_passes, find_passes_all, is_eq-nat_cmp, list_all-filter_same, list_all_weaker}
 use Rattle.row_lemmas.proofs.Filters.{find_from_filter, list_all_from_filter}
 use Rattle.row_lemmas.proofs.Keyed.Rest.{filter-without_first, length-without}
-use Rattle.row_lemmas.proofs.Keyed.RowAt.{has_key_same, row_at_behind, row_at_from_find}
+use Rattle.row_lemmas.proofs.Keyed.RowAt.{row_at_from_find}
 use Rattle.row_lemmas.proofs.Keyed.Without.{without_none}
 use Rattle.row_lemmas.proofs.Tables.{pair_cmp_total, tables_after-tables_after}
 use Rattle.tree_rows.specs.Shapes.{node_of_row, Represents}

@@ -1,12 +1,13 @@
 -- The changes of rows that operations are made of.
-use Rattle.std.specs.Prelude.{ℕ, ◌+◌, List, [], ◌∷◌, ◌++◌, false}
+use Rattle.std.specs.Prelude.{ℕ, ◌+◌, ◌-◌, List, [], ◌∷◌, ◌++◌, Bool, false, if◌then◌else◌}
 use Rattle.s3_base.specs.declared.node_kind.Kind.TheVariants as kinds
 use Rattle.s3_rows.specs.declared.change.Change.{Change}
 use Rattle.s3_rows.specs.declared.change.Change.TheVariants as changes
 use Rattle.s3_rows.specs.Rows.{Inode, Name, Content, Attr, Parameters}
 use Rattle.s3_rows.specs.Tables.{Tables}
-use Rattle.s3_rows.specs.Batches.{after_change}
+use Rattle.s3_rows.specs.Batches.{after_change, tables_after}
 use Rattle.ref_counts.specs.Names.{Raised, lowered}
+use Rattle.ref_counts.specs.Removals.{removal}
 
 -- both times set
 abbrev pub touched_row : ℕ → Inode → Inode
@@ -60,3 +61,13 @@ dropping_attr a n = changes.DeleteAttr a.inode a.name_id ∷ lowered n
 -- the row of an inode with another count, at a time
 abbrev pub counted_row : ℕ → ℕ → Inode → Inode
 counted_row count now r = record r { ctime = now; refcount = count }
+
+-- an entry that goes, and its inode, which counts one link less where another entry or a handle keeps it, and goes where none does
+abbrev pub unlinking : Bool → Tables → Inode → Inode → Content → Name → ℕ → List Change
+unlinking kept t directory r c n now =
+    dropping directory c n now
+    ++ (if kept then changes.PutInode (counted_row (r.refcount - 1) now r) ∷ [] else removal t r.id (tables_after (dropping directory c n now) t))
+
+-- an inode that goes where nothing keeps it
+abbrev pub settling : Bool → Tables → ℕ → List Change
+settling kept t inode = if kept then [] else removal t inode t

@@ -19,7 +19,7 @@ pub use entries::{
 };
 pub use steps::{
     new_directories_are_steps, new_files_are_steps, new_rows_are_found, old_directories_are_steps,
-    tables_after_operations_are_valid,
+    old_files_are_steps, old_links_are_steps, tables_after_operations_are_valid,
 };
 pub use trees::{
     entries_are_entries, name_rows_leave_the_tree, rows_are_nodes, rows_of_no_node_leave_the_tree,

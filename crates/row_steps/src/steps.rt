@@ -1,7 +1,11 @@
-ghost use Rattle.std.specs.Prelude.{◌≡◌, ◌++◌, ℕ, List, [], None, Some};
+ghost use Rattle.std.specs.Prelude.{◌≡◌, ◌++◌, ◌==◌, ◌||◌, ℕ, List, [], Bool, not, nat_lt, IsTrue, None, Some};
 ghost use Rattle.op_frames.specs.declared.operation.Op.{Op};
 ghost use Rattle.op_frames.specs.declared.operation.Op.TheVariants as ops;
-ghost use Rattle.plain_tree.specs.Tree.{Tree};
+ghost use Rattle.std.specs.List.{list_all};
+ghost use Rattle.s3_base.specs.declared.node_kind.Kind.TheVariants as kinds;
+ghost use Rattle.plain_tree.specs.Tree.{Handle, Tree, handle_of, without_handle};
+ghost use Rattle.plain_tree.specs.Classes.{keeps_rows};
+ghost use Rattle.plain_tree.specs.Entries.{is_open};
 ghost use Rattle.plain_tree.specs.Checks.{first_failure};
 ghost use Rattle.plain_tree.specs.Operations.{checks, effect};
 ghost use Rattle.plain_tree.specs.WellFormed.{IsWellFormed};
@@ -12,10 +16,10 @@ ghost use Rattle.s3_rows.specs.Selections.{entry_at, inode_at, name_of_bytes};
 ghost use Rattle.s3_rows.specs.Validity.{IsValid, HasUniqueNames};
 ghost use Rattle.tree_rows.specs.Shapes.{Represents};
 ghost use Rattle.ref_counts.specs.Names.{Raised, raised};
-ghost use Rattle.ref_counts.specs.Plans.{IsStep};
+ghost use Rattle.ref_counts.specs.Plans.{AreNamed, IsStep};
 ghost use Rattle.ref_counts.specs.Removals.{removal};
 ghost use Rattle.row_steps.specs.Owed.{Owes};
-ghost use Rattle.row_steps.specs.RowChanges.{creation, dropping, new_directory_row, new_file_row, with_drawn};
+ghost use Rattle.row_steps.specs.RowChanges.{creation, dropping, new_directory_row, new_file_row, settling, unlinking, with_drawn};
 
 /// Where no check of an operation on a well-formed tree fails, tables that owe nothing and represent the tree after it are valid.
 pub fn tables_after_operations_are_valid()
@@ -55,4 +59,28 @@ pub fn old_directories_are_steps()
         → first_failure (checks whole pass (ops.Rmdir parent name)) ≡ None
         → IsStep t (tables_after (dropping directory c n now ++ removal t child.id (tables_after (dropping directory c n now) t)) t)
         (effect whole pass (ops.Rmdir parent name) now) 0 }
+{}
+
+/// Where no check of an Unlink fails, its batch leaves valid tables that represent the tree without the entry: the file counts one
+/// link less where another entry or a handle keeps it, and goes where none does. No block or slot is of it. Every inode keeps a
+/// name where the batch leaves it so.
+pub fn old_links_are_steps()
+    ensures { (t : Tables) (whole : Tree) (p : Parameters) (directory r : Inode) (c : Content) (n : Name) (pass parent now : ℕ) (name : List ℕ) (held : Bool)
+        → IsValid t → HasUniqueNames t → IsWellFormed whole → Represents t whole → t.params ≡ Some p → inode_at t parent ≡ Some directory
+        → name_of_bytes t name ≡ Some n → entry_at t parent n.id ≡ Some c → inode_at t c.inode ≡ Some r
+        → IsTrue (list_all (λ x. not (x.inode == r.id)) t.inode_blocks) → IsTrue (list_all (λ x. not (x.inode == r.id)) t.slots)
+        → is_open whole c.inode ≡ held → first_failure (checks whole pass (ops.Unlink parent name)) ≡ None
+        → (AreNamed t → AreNamed (tables_after (unlinking (nat_lt 1 r.refcount || held) t directory r c n now) t))
+        → IsStep t (tables_after (unlinking (nat_lt 1 r.refcount || held) t directory r c n now) t) (effect whole pass (ops.Unlink parent name) now) 0 }
+{}
+
+/// Where no check of a Release fails, a file that neither an entry nor another handle keeps goes; else the rows stay.
+pub fn old_files_are_steps()
+    ensures { (t : Tables) (whole : Tree) (p : Parameters) (r : Inode) (handle : Handle) (pass number now : ℕ) (held : Bool)
+        → IsValid t → HasUniqueNames t → IsWellFormed whole → Represents t whole → t.params ≡ Some p → handle_of whole pass number ≡ Some handle
+        → inode_at t handle.inode ≡ Some r → r.kind ≡ kinds.Regular
+        → IsTrue (list_all (λ x. not (x.inode == r.id)) t.inode_blocks) → IsTrue (list_all (λ x. not (x.inode == r.id)) t.slots)
+        → is_open (without_handle number whole) handle.inode ≡ held → first_failure (checks whole pass (ops.Release number)) ≡ None
+        → IsStep t (tables_after (settling (not (r.refcount == 0) || held) t r.id) t) (effect whole pass (ops.Release number) now) 0
+        × (keeps_rows whole pass (ops.Release number) ≡ (not (r.refcount == 0) || held)) }
 {}

@@ -1,0 +1,263 @@
+-- A file that loses an entry, and a nameless file that loses a handle: it goes where nothing keeps it.
+use Rattle.std.proofs.Common.{◌≡◌, ℕ, ◌+◌, ◌-◌, List, [], ◌∷◌, Bool, true, false, cond, Option, None, Some, refl, sym, ap, ◌∙◌, subst, arith, eqb-true, eq-eqb, ltb-true}
+use Rattle.std.proofs.lemmas.Bool.{and_parts, ltb-false}
+use Rattle.std.specs.Prelude.{IsTrue, not, ◌||◌, ◌==◌, is_some, nat_lt, option_and_then}
+use Rattle.std.specs.List.{list_all}
+use Rattle.s3_base.specs.declared.node_kind.Kind.TheVariants as kinds
+use Rattle.op_frames.specs.declared.operation.Op.TheVariants as ops
+use Rattle.plain_tree.specs.Tree.{Handle, Node, Tree, node_at, change_node, handle_of, stamped, without_handle, without_node}
+use Rattle.plain_tree.specs.Checks.{first_failure, no_directory_check}
+use Rattle.plain_tree.specs.Classes.{keeps_rows}
+use Rattle.plain_tree.specs.Entries.{child_at, drop_entry, is_folder, is_named, is_open, lives, settled}
+use Rattle.plain_tree.specs.Entries as entries
+use Rattle.plain_tree.specs.Files.{inode_of}
+use Rattle.plain_tree.specs.Operations.{checks, effect}
+use Rattle.plain_tree.specs.Subtrees as subtrees
+use Rattle.plain_tree.specs.WellFormed.{IsWellFormed}
+use Rattle.s3_rows.specs.declared.change.Change.TheVariants as changes
+use Rattle.s3_rows.specs.Rows.{Inode, Name, Content, InodeBlock, Slot, Parameters}
+use Rattle.s3_rows.specs.Keyed.{has_key, put}
+use Rattle.s3_rows.specs.Tables.{Tables, by_entry, by_inode}
+use Rattle.s3_rows.specs.Batches.{tables_after}
+use Rattle.s3_rows.specs.Selections.{inode_at, entry_at, name_at, name_of_bytes}
+use Rattle.s3_rows.specs.Counts.{listed_inode_count}
+use Rattle.s3_rows.specs.Validity.{IsValid, HasUniqueNames, any_kind, has_inode, is_directory}
+use Rattle.row_lemmas.proofs.Tests.{find_passes_all, list_all_weaker}
+use Rattle.row_lemmas.proofs.Keyed.Without.{list_all-without}
+use Rattle.row_lemmas.proofs.Tables.{tables_after-tables_after}
+use Rattle.tree_laws.proofs.Walk.Passed.{CanUnlink, can_unlink, not_failed}
+use Rattle.tree_laws.proofs.WellFormed.{IsWellFormed-effect}
+use Rattle.tree_rows.specs.Premises.{finds_directory_and_name}
+use Rattle.tree_rows.specs.Shapes.{Represents}
+use Rattle.tree_rows.proofs.Replaced.{replaced_represents}
+use Rattle.tree_rows.proofs.Whole.{folder_is, number_of}
+use Rattle.ref_counts.specs.Plans.{AreNamed, IsStep}
+use Rattle.row_steps.specs.Owed.{IsBare, Owes, owes_links, times}
+use Rattle.row_steps.specs.RowChanges.{counted_row, dropping, settling, unlinking, touched_row}
+use Rattle.row_steps.proofs.Leaving.{IsLeaving, IsLess-dropped, IsStep-left, HasUniqueNames-dropped, Owes-dropped, Represents-dropped, child_number, child_there, dropped, dropped_is, entry_is, not_root, row_there, there}
+use Rattle.row_steps.proofs.Less.{IsLess, IsLess-refl, IsStep-less}
+use Rattle.row_steps.proofs.Living.{FindsChildren, FindsChildren-IsValid, FindsChildren-put, is_named-owes, is_open-change_node, kept-refcount, without_node-change_node}
+use Rattle.row_steps.proofs.Owed.Ends.{Owes-IsValid}
+use Rattle.row_steps.proofs.Owed.Inodes.{Owes-put_inode_less, times_first}
+use Rattle.row_steps.proofs.Place.{kind_there}
+use Rattle.row_steps.proofs.Removing.{HasUniqueNames-removal, Owes-removal, Represents-removal, apart_by_kind, attrs-removal, gone, tables_after-removal}
+
+no_folder : (found : Option Node) → no_directory_check 21 found ≡ None → is_folder found ≡ false
+no_folder None is = refl
+no_folder (Some node) is = not_failed 21 (entries.is_directory node.content) is
+
+-- one link less is some where more than one was
+some_left : (a b : ℕ) → a ≡ b + 1 → not (b == 0) ≡ nat_lt 1 a
+some_left a b is = by_case (b == 0) refl (nat_lt 1 a) refl
+  where
+    by_case : (x : Bool) → (b == 0) ≡ x → (y : Bool) → nat_lt 1 a ≡ y → not x ≡ y
+    by_case true none true more = absurd (omega (arith, is, eqb-true b 0 none, ltb-true 1 a more))
+    by_case true none false less = refl
+    by_case false some true more = refl
+    by_case false some false less =
+        let none : b ≡ 0 = omega (arith, is, ltb-false 1 a less) in
+        let clash : true ≡ false = sym (eq-eqb b 0 none) ∙ some in
+        absurd (cc clash)
+
+-- no entry is in what is no directory
+no_entries : (t : Tables) (r : Inode) → inode_at t r.id ≡ Some r → is_directory r.kind ≡ false → {p : Parameters} → Owes t p [] []
+    → IsTrue (list_all (λ (x : Content). not (x.parent == r.id)) t.contents)
+no_entries t r there other o =
+    list_all_weaker (finds_directory_and_name t) (λ (x : Content). not (x.parent == r.id))
+    (λ x finds. apart_by_kind t r there is_directory other x.parent (and_parts (has_inode is_directory t x.parent) (is_some (name_at t x.name_id)) finds).0)
+    t.contents o.rows.entries
+
+-- ---- a row with one link less
+
+module _ (t : Tables) (whole : Tree) (p : Parameters) (d r : Inode) (c : Content) (n : Name) (now parent : ℕ) (name : List ℕ)
+    (is : IsLeaving t whole p d r c n parent name) (bare : IsBare t r.id) where
+  abbrev unnamed : Tables
+  unnamed = dropped t whole p d r c n now parent name is
+
+  owes_unnamed : Owes unnamed p (c.inode ∷ []) []
+  owes_unnamed = Owes-dropped t whole p d r c n now parent name is
+
+  row_unnamed : inode_at unnamed r.id ≡ Some r
+  row_unnamed = row_there t whole p d r c n now parent name is bare
+
+  number_is : c.inode ≡ r.id
+  number_is = child_number t whole p d r c n now parent name is
+
+  one_less : r.refcount ≡ listed_inode_count unnamed r.id + 1
+  one_less =
+      let owed : IsTrue (owes_links unnamed (c.inode ∷ []) r) =
+      find_passes_all (has_key by_inode r.id) (owes_links unnamed (c.inode ∷ [])) unnamed.inodes r owes_unnamed.inodes row_unnamed in
+      let once : times r.id (c.inode ∷ []) ≡ 1 = ap (λ y. times r.id (y ∷ [])) number_is ∙ times_first r.id [] in
+      omega (arith, eqb-true r.refcount (listed_inode_count unnamed r.id + times r.id (c.inode ∷ [])) owed, once)
+
+  abbrev row : Inode
+  row = counted_row (r.refcount - 1) now r
+
+  abbrev counted : Tables
+  counted = record unnamed { inodes = put by_inode row unnamed.inodes }
+
+  owes_counted : Owes counted p [] []
+  owes_counted =
+      Owes-put_inode_less unnamed p r row [] [] (subst (λ id. Owes unnamed p (id ∷ []) []) number_is owes_unnamed) row_unnamed refl refl
+      (omega (arith, one_less))
+
+  abbrev unlinked : Tree
+  unlinked = drop_entry parent name now whole
+
+  abbrev stamped_tree : Tree
+  stamped_tree = change_node c.inode (stamped now) unlinked
+
+  represents_counted : Represents counted stamped_tree
+  represents_counted =
+      subst (λ x. Represents counted (change_node x (stamped now) unlinked)) (sym number_is)
+      (replaced_represents unnamed unlinked r row (stamped now) owes_unnamed.ordered.inodes (Represents-dropped t whole p d r c n now parent name is) row_unnamed
+      (λ node shape i. record (shape i) { ctime = now }))
+
+  children_unnamed : FindsChildren unnamed
+  children_unnamed =
+      subst (λ (u : Tables). FindsChildren u) (sym (dropped_is t whole p d r c n now parent name is))
+      (list_all-without by_entry (λ (x : Content). has_inode any_kind (record t { inodes = put by_inode (touched_row now d) t.inodes }) x.inode) (c.parent, c.name_id) t.contents
+      (FindsChildren-put t d (touched_row now d) (there t whole p d r c n now parent name is) refl refl (FindsChildren-IsValid t is.valid)))
+
+  -- the node lives where it had another entry, or a handle
+  lives_is : (held : Bool) → is_open whole c.inode ≡ held → lives stamped_tree c.inode ≡ (nat_lt 1 r.refcount || held)
+  lives_is held held_is =
+      let named : is_named stamped_tree c.inode ≡ nat_lt 1 r.refcount =
+      is_named-owes counted p [] [] stamped_tree c.inode owes_counted (FindsChildren-put unnamed r row row_unnamed refl refl children_unnamed) represents_counted
+      (not_root t whole p d r c n now parent name is)
+      ∙ ap (λ x. not (listed_inode_count unnamed x == 0)) number_is ∙ some_left r.refcount (listed_inode_count unnamed r.id) one_less in
+      let handle : is_open stamped_tree c.inode ≡ held =
+      is_open-change_node (stamped now) c.inode c.inode unlinked ∙ is_open-change_node _ parent c.inode whole ∙ held_is in
+      (λ i. not_root t whole p d r c n now parent name is i || named i || handle i)
+
+  unlink_is : (pass : ℕ) → effect whole pass (ops.Unlink parent name) now ≡ cond (lives stamped_tree c.inode) stamped_tree (without_node c.inode stamped_tree)
+  unlink_is pass = ap (λ (e : Option ℕ). subtrees.dropped now e unlinked) (entry_is t whole p d r c n now parent name is)
+
+  pub unlink_step : (pass : ℕ) (kept : Bool) → lives stamped_tree c.inode ≡ kept → HasUniqueNames t → IsWellFormed (effect whole pass (ops.Unlink parent name) now)
+      → (AreNamed t → AreNamed (tables_after (unlinking kept t d r c n now) t))
+      → IsStep t (tables_after (unlinking kept t d r c n now) t) (effect whole pass (ops.Unlink parent name) now) 0
+  unlink_step pass true lives_on unique well named =
+      let after : Tree = effect whole pass (ops.Unlink parent name) now in
+      let tables : tables_after (unlinking true t d r c n now) t ≡ counted = sym (tables_after-tables_after (dropping d c n now) (changes.PutInode row ∷ []) t) in
+      let tree_is : after ≡ stamped_tree = unlink_is pass ∙ ap (λ b. cond b stamped_tree (without_node c.inode stamped_tree)) lives_on in
+      let before : IsLess t unnamed = IsLess-dropped t whole p d r c n now parent name is in
+      subst (λ (u : Tables). IsStep t u after 0) (sym tables)
+      (IsStep-less t counted after p owes_counted (subst (λ w. Represents counted w) (sym tree_is) represents_counted) well
+      (λ u. HasUniqueNames-dropped t whole p d r c n now parent name is u)
+      (record {
+        params = before.params;
+        inode_blocks = before.inode_blocks;
+        blocks = before.blocks;
+        objects = before.objects;
+        slots = before.slots;
+        contents = before.contents;
+        attrs = before.attrs;
+      })
+      (λ all. subst AreNamed tables (named all)))
+  unlink_step pass false goes unique well named =
+      let tree_is : effect whole pass (ops.Unlink parent name) now ≡ without_node c.inode unlinked =
+      unlink_is pass ∙ ap (λ b. cond b stamped_tree (without_node c.inode stamped_tree)) goes ∙ without_node-change_node (stamped now) c.inode unlinked in
+      subst (λ w. IsStep t (tables_after (unlinking false t d r c n now) t) w 0) (sym tree_is)
+      (IsStep-left t whole p d r c n now parent name is bare (subst IsWellFormed tree_is well))
+
+pub old_link_step : (t : Tables) (whole : Tree) (p : Parameters) (directory r : Inode) (c : Content) (n : Name) (pass parent now : ℕ) (name : List ℕ) (held : Bool)
+    → IsValid t → HasUniqueNames t → IsWellFormed whole → Represents t whole → t.params ≡ Some p → inode_at t parent ≡ Some directory
+    → name_of_bytes t name ≡ Some n → entry_at t parent n.id ≡ Some c → inode_at t c.inode ≡ Some r
+    → IsTrue (list_all (λ (x : InodeBlock). not (x.inode == r.id)) t.inode_blocks) → IsTrue (list_all (λ (x : Slot). not (x.inode == r.id)) t.slots)
+    → is_open whole c.inode ≡ held → first_failure (checks whole pass (ops.Unlink parent name)) ≡ None
+    → (AreNamed t → AreNamed (tables_after (unlinking (nat_lt 1 r.refcount || held) t directory r c n now) t))
+    → IsStep t (tables_after (unlinking (nat_lt 1 r.refcount || held) t directory r c n now) t) (effect whole pass (ops.Unlink parent name) now) 0
+old_link_step t whole p directory r c n pass parent now name held v unique well same made found bytes entry row_is blocks slots held_is passes named =
+    unlink_step t whole p directory r c n now parent name is bare pass (nat_lt 1 r.refcount || held)
+    (lives_is t whole p directory r c n now parent name is bare held held_is) unique (IsWellFormed-effect whole pass now (ops.Unlink parent name) well passes) named
+  where
+    can : CanUnlink whole parent name
+    can = can_unlink whole pass parent name passes
+
+    is : IsLeaving t whole p directory r c n parent name
+    is = record {
+      valid = v;
+      same = same;
+      params = made;
+      found = found;
+      kind = kind_there t whole v same parent directory found can.drop.there can.drop.folder;
+      bytes = bytes;
+      entry = entry;
+      child = row_is;
+    }
+
+    child_is : child_at whole parent name ≡ node_at whole c.inode
+    child_is = ap (option_and_then (node_at whole)) (entry_is t whole p directory r c n now parent name is)
+
+    no_directory : is_directory r.kind ≡ false
+    no_directory =
+        sym (ap (λ (x : Option Inode). elim x [ Some y ↦ is_directory y.kind | None ↦ false ]) row_is) ∙ sym (folder_is t whole same c.inode)
+        ∙ no_folder (node_at whole c.inode) (ap (no_directory_check 21) (sym child_is) ∙ can.file)
+
+    bare : IsBare t r.id
+    bare = record {
+      entries = no_entries t r (child_there t whole p directory r c n now parent name is) no_directory (Owes-IsValid t p v made);
+      inode_blocks = blocks;
+      slots = slots;
+    }
+
+-- ---- a nameless file
+
+pub old_file_step : (t : Tables) (whole : Tree) (p : Parameters) (r : Inode) (handle : Handle) (pass number now : ℕ) (held : Bool)
+    → IsValid t → HasUniqueNames t → IsWellFormed whole → Represents t whole → t.params ≡ Some p → handle_of whole pass number ≡ Some handle
+    → inode_at t handle.inode ≡ Some r → r.kind ≡ kinds.Regular
+    → IsTrue (list_all (λ (x : InodeBlock). not (x.inode == r.id)) t.inode_blocks) → IsTrue (list_all (λ (x : Slot). not (x.inode == r.id)) t.slots)
+    → is_open (without_handle number whole) handle.inode ≡ held → first_failure (checks whole pass (ops.Release number)) ≡ None
+    → IsStep t (tables_after (settling (not (r.refcount == 0) || held) t r.id) t) (effect whole pass (ops.Release number) now) 0
+    × (keeps_rows whole pass (ops.Release number) ≡ (not (r.refcount == 0) || held))
+old_file_step t whole p r handle pass number now held v unique well same made has there_is kind blocks slots held_is passes =
+    (by_case (not (r.refcount == 0) || held) lives_on, ap (λ (h : Option Handle). lives (without_handle number whole) (inode_of h)) has ∙ lives_on)
+  where
+    owes : Owes t p [] []
+    owes = Owes-IsValid t p v made
+
+    id_is : handle.inode ≡ r.id
+    id_is = number_of t handle.inode r there_is
+
+    lives_on : lives (without_handle number whole) handle.inode ≡ (not (r.refcount == 0) || held)
+    lives_on = (λ i. kept-refcount t whole handle.inode r v same there_is i || held_is i)
+
+    settles : effect whole pass (ops.Release number) now ≡ cond (lives (without_handle number whole) handle.inode) (without_handle number whole) (without_node handle.inode (without_handle number whole))
+    settles = ap (λ (h : Option Handle). settled (inode_of h) (without_handle number whole)) has
+
+    well_after : IsWellFormed (effect whole pass (ops.Release number) now)
+    well_after = IsWellFormed-effect whole pass now (ops.Release number) well passes
+
+    bare : IsBare t r.id
+    bare = record {
+      entries = no_entries t r (ap (inode_at t) (sym id_is) ∙ there_is) (ap is_directory kind) owes;
+      inode_blocks = blocks;
+      slots = slots;
+    }
+
+    by_case : (kept : Bool) → lives (without_handle number whole) handle.inode ≡ kept
+        → IsStep t (tables_after (settling kept t r.id) t) (effect whole pass (ops.Release number) now) 0
+    by_case true stays =
+        let tree_is : effect whole pass (ops.Release number) now ≡ without_handle number whole =
+        settles ∙ ap (λ b. cond b (without_handle number whole) (without_node handle.inode (without_handle number whole))) stays in
+        IsStep-less t t (effect whole pass (ops.Release number) now) p owes (subst (λ w. Represents t w) (sym tree_is) same) well_after (λ u. u) (IsLess-refl t) (λ all. all)
+    by_case false goes =
+        let rest : Tables = gone t p r.id [] [] [] owes bare (λ x other. refl) in
+        let tree_is : effect whole pass (ops.Release number) now ≡ without_node r.id (without_handle number whole) =
+        settles ∙ ap (λ b. cond b (without_handle number whole) (without_node handle.inode (without_handle number whole))) goes
+        ∙ ap (λ x. without_node x (without_handle number whole)) id_is in
+        subst (λ (u : Tables). IsStep t u (effect whole pass (ops.Release number) now) 0) (sym (tables_after-removal t p r.id [] [] [] owes bare (λ x other. refl)))
+        (IsStep-less t rest (effect whole pass (ops.Release number) now) p (Owes-removal t p r.id [] [] [] owes bare (λ x other. refl))
+        (subst (λ w. Represents rest w) (sym tree_is) (Represents-removal t p r.id [] [] [] owes bare (λ x other. refl) (without_handle number whole) same))
+        well_after
+        (λ u. HasUniqueNames-removal t p r.id [] [] [] owes bare (λ x other. refl) u)
+        (record {
+          params = refl;
+          inode_blocks = refl;
+          blocks = refl;
+          objects = refl;
+          slots = refl;
+          contents = omega arith;
+          attrs = attrs-removal t p r.id [] [] [] owes bare (λ x other. refl);
+        })
+        (λ all. list_all-without by_inode (λ (x : Inode). not (x.refcount == 0)) r.id t.inodes all))
