@@ -1,6 +1,7 @@
 -- Lists of rows by key, over any order that is total.
 pub mod Count
 pub mod Filter
+pub mod Length
 pub mod Place
 pub mod Put
 pub mod Rest

@@ -33,10 +33,11 @@ module _ (t : Tables) (p : Parameters) (d : Inode) (c : Content) (n : Name) (now
   abbrev pub touched : Tables
   touched = record t { contents = without by_entry (c.parent, c.name_id) t.contents; inodes = put by_inode (touched_row now d) t.inodes }
 
-  id_is : c.name_id ≡ n.id
+  pub id_is : c.name_id ≡ n.id
   id_is = one_number c.name_id n.id (find_passes (has_key by_name c.name_id) t.names n named)
 
-  owes_both : Owes touched p (c.inode ∷ links) (n.id ∷ uses)
+  -- the link and the use of the entry are owed
+  pub owes_both : Owes touched p (c.inode ∷ links) (n.id ∷ uses)
   owes_both =
       subst (λ id. Owes touched p (c.inode ∷ links) (id ∷ uses)) id_is
       (Owes-put_inode_same (record t { contents = without by_entry (c.parent, c.name_id) t.contents }) p d (touched_row now d) (c.inode ∷ links) (c.name_id ∷ uses)
@@ -50,13 +51,16 @@ module _ (t : Tables) (p : Parameters) (d : Inode) (c : Content) (n : Name) (now
   Owes-dropping = subst (λ (u : Tables). Owes u p (c.inode ∷ links) uses) (sym lower.after) lower.owes
 
   -- and the tree has an entry less
-  pub Represents-dropping : (whole : Tree) → d.kind ≡ kinds.Directory → Represents t whole → Represents (tables_after (dropping d c n now) t) (drop_entry d.id n.name now whole)
-  Represents-dropping whole kind same =
+  pub Represents-touched : (whole : Tree) → d.kind ≡ kinds.Directory → Represents t whole → Represents touched (drop_entry d.id n.name now whole)
+  Represents-touched whole kind same =
       let deleted : Represents touched (drop_entry d.id (unwrap_or (option_map (λ (r : Name). r.name) (name_at t c.name_id)) []) now whole) =
       Represents-without_content t c o.ordered.contents o.unlike entry (ap is_some named) whole d now o.ordered.inodes same parent there kind in
-      let text : Represents touched (drop_entry d.id n.name now whole) =
-      subst (λ (found : Option Name). Represents touched (drop_entry d.id (unwrap_or (option_map (λ (r : Name). r.name) found) []) now whole)) named deleted in
-      subst (λ (u : Tables). Represents u (drop_entry d.id n.name now whole)) (sym lower.after) (lower.represents (drop_entry d.id n.name now whole) text)
+      subst (λ (found : Option Name). Represents touched (drop_entry d.id (unwrap_or (option_map (λ (r : Name). r.name) found) []) now whole)) named deleted
+
+  pub Represents-dropping : (whole : Tree) → d.kind ≡ kinds.Directory → Represents t whole → Represents (tables_after (dropping d c n now) t) (drop_entry d.id n.name now whole)
+  Represents-dropping whole kind same =
+      subst (λ (u : Tables). Represents u (drop_entry d.id n.name now whole)) (sym lower.after)
+      (lower.represents (drop_entry d.id n.name now whole) (Represents-touched whole kind same))
 
   pub HasUniqueNames-dropping : HasUniqueNames t → HasUniqueNames (tables_after (dropping d c n now) t)
   HasUniqueNames-dropping unique = subst (λ (u : Tables). HasUniqueNames u) (sym lower.after) (lower.unique unique)

@@ -4,10 +4,15 @@ pub mod Leaving
 pub mod Less
 pub mod Living
 pub mod Making
+pub mod MovedNames
+pub mod Moving
 pub mod NewNodes
 pub mod OldFiles
 pub mod OldNodes
 pub mod Owed
 pub mod Place
+pub mod Placing
 pub mod Removing
+pub mod Renaming
+pub mod Replacing
 pub mod Shape

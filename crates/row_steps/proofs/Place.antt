@@ -1,7 +1,7 @@
 -- Where no check of a new entry fails, its directory has a row of that kind, and no row is an entry of the name.
 use Rattle.std.proofs.Common.{◌≡◌, ℕ, List, Bool, true, false, Option, None, Some, refl, sym, ap, ◌∙◌}
-use Rattle.std.specs.Prelude.{IsTrue, find, is_some, option_and_then}
-use Rattle.std.specs.List.{list_any}
+use Rattle.std.specs.Prelude.{IsTrue, is_some, option_and_then}
+use Rattle.std.specs.List.{list_all, list_any}
 use Rattle.s3_base.specs.declared.node_kind.Kind.{Kind}
 use Rattle.s3_base.specs.declared.node_kind.Kind.TheVariants as kinds
 use Rattle.plain_tree.specs.Tree as tree
@@ -9,10 +9,10 @@ use Rattle.plain_tree.specs.Tree.{Node, Tree, node_at, entry_of}
 use Rattle.plain_tree.specs.Checks.{fails_with, node_check, directory_check, free_check}
 use Rattle.plain_tree.specs.Entries.{is_folder}
 use Rattle.plain_tree.specs.Entries as entries
-use Rattle.s3_rows.specs.Rows.{Inode, Content}
+use Rattle.s3_rows.specs.Rows.{Inode}
 use Rattle.s3_rows.specs.Tables.{Tables}
 use Rattle.s3_rows.specs.Selections.{inode_at}
-use Rattle.s3_rows.specs.Validity.{IsValid, has_inode, is_directory}
+use Rattle.s3_rows.specs.Validity.{IsValid, finds_of_entry, has_inode, is_directory}
 use Rattle.row_lemmas.proofs.Tests.{find_from_list_any}
 use Rattle.tree_rows.specs.Shapes.{Represents}
 use Rattle.tree_rows.proofs.Listed.{is_entry}
@@ -42,6 +42,18 @@ directory_kind kinds.Directory is = refl
 directory_kind kinds.Regular is = absurd (cc is)
 directory_kind kinds.Link is = absurd (cc is)
 
+-- no row is an entry of a name that the tree's directory does not have
+pub is_entry_none : (t : Tables) (whole : Tree) → Represents t whole → IsTrue (list_all (finds_of_entry t) t.contents) → (x : ℕ) → IsTrue (has_inode is_directory t x)
+    → (name : List ℕ) → entries.entry_at whole x name ≡ None → list_any (is_entry t x name) t.contents ≡ false
+is_entry_none t whole same finds x folder name none = by_case (list_any (is_entry t x name) t.contents) refl
+  where
+    by_case : (b : Bool) → list_any (is_entry t x name) t.contents ≡ b → b ≡ false
+    by_case true any =
+        let found = find_from_list_any (is_entry t x name) t.contents any in
+        let clash : Some found.0.inode ≡ None = sym (entry_made t whole same finds x name found.0 folder found.1) ∙ none in
+        absurd (cc clash)
+    by_case false other = refl
+
 module _ (t : Tables) (whole : Tree) (v : IsValid t) (same : Represents t whole) (x : ℕ) where
   folder_there : node_check (node_at whole x) ≡ None → directory_check (node_at whole x) ≡ None → IsTrue (has_inode is_directory t x)
   folder_there there is = sym (folder_is t whole same x) ∙ folder_passes (node_at whole x) there is
@@ -54,16 +66,4 @@ module _ (t : Tables) (whole : Tree) (v : IsValid t) (same : Represents t whole)
 
   pub free_there : (name : List ℕ) → node_check (node_at whole x) ≡ None → directory_check (node_at whole x) ≡ None
       → free_check (node_at whole x) name ≡ None → list_any (is_entry t x name) t.contents ≡ false
-  free_there name there is free = by_case (list_any (is_entry t x name) t.contents) refl
-    where
-      by_row : (c : Content) → find (is_entry t x name) t.contents ≡ Some c → ⊥
-      by_row c found =
-          let clash : Some c.inode ≡ None =
-          sym (entry_made t whole same v.rows.entries x name c (folder_there there is) found) ∙ free_passes (node_at whole x) name free in
-          cc clash
-
-      by_case : (b : Bool) → list_any (is_entry t x name) t.contents ≡ b → b ≡ false
-      by_case true any =
-          let found = find_from_list_any (is_entry t x name) t.contents any in
-          absurd (by_row found.0 found.1)
-      by_case false none = refl
+  free_there name there is free = is_entry_none t whole same v.rows.entries x (folder_there there is) name (free_passes (node_at whole x) name free)

@@ -4,3 +4,4 @@ pub mod Deletes
 pub mod Entries
 pub mod Names
 pub mod Rows
+pub mod Unlisted

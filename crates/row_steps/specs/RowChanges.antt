@@ -13,6 +13,10 @@ use Rattle.ref_counts.specs.Removals.{removal}
 abbrev pub touched_row : ℕ → Inode → Inode
 touched_row now r = record r { mtime = now; ctime = now }
 
+-- only the time of the last change of state set
+abbrev pub stamped_row : ℕ → Inode → Inode
+stamped_row now r = record r { ctime = now }
+
 -- the next inode number is drawn
 abbrev pub drawn : Parameters → Parameters
 drawn p = record p { next_inode = p.next_inode + 1 }
@@ -71,3 +75,23 @@ unlinking kept t directory r c n now =
 -- an inode that goes where nothing keeps it
 abbrev pub settling : Bool → Tables → ℕ → List Change
 settling kept t inode = if kept then [] else removal t inode t
+
+-- An entry moves: the old one is deleted, and its directory touched; where the name changes, the uses of names do; the new entry
+-- is put, in place of another or not, and its directory touched; and the inode that both name is stamped.
+abbrev pub moving : Inode → Inode → Content → Raised → Inode → ℕ → List Change
+moving directory new_directory c more r now =
+    changes.DeleteContent c.parent c.name_id ∷ changes.PutInode (touched_row now directory) ∷ more.changes
+    ++ changes.PutContent (record { parent = new_directory.id; name_id = more.id; inode = r.id }) ∷ changes.PutInode (touched_row now new_directory)
+    ∷ changes.PutInode (stamped_row now r) ∷ []
+
+-- the name of an entry that moves goes with it
+abbrev pub same_name : Content → Raised
+same_name c = record { id = c.name_id; changes = [] }
+
+-- or it is used once less, and the new one once more
+abbrev pub other_name : Name → Raised → Raised
+other_name n more = record { id = more.id; changes = lowered n ++ more.changes }
+
+-- or only that, since the entry that is replaced has the new name
+abbrev pub name_of_replaced : Name → Content → Raised
+name_of_replaced n replaced = record { id = replaced.name_id; changes = lowered n }

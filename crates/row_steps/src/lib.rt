@@ -4,6 +4,7 @@
 
 mod debts;
 mod entries;
+mod renames;
 mod steps;
 mod trees;
 
@@ -17,6 +18,7 @@ pub use entries::{
     attributes_that_go_owe_nothing, entries_that_come_are_owed_links, entries_that_go_owe_a_link,
     inodes_that_go_owe_nothing, unlinked_inodes_count_one_link_less,
 };
+pub use renames::renames_are_steps;
 pub use steps::{
     new_directories_are_steps, new_files_are_steps, new_rows_are_found, old_directories_are_steps,
     old_files_are_steps, old_links_are_steps, tables_after_operations_are_valid,

@@ -1,5 +1,5 @@
 -- Valid tables owe nothing, and tables that owe nothing have the premises of valid ones.
-use Rattle.std.proofs.Common.{◌≡◌, ℕ, ◌+◌, [], Some, sym, ap, ◌∙◌, subst, arith}
+use Rattle.std.proofs.Common.{◌≡◌, ℕ, ◌+◌, List, [], Some, sym, ap, ◌∙◌, subst, arith}
 use Rattle.std.specs.Prelude.{IsTrue, ◌&&◌, ◌==◌, nat_le, nat_lt}
 use Rattle.std.specs.List.{list_all}
 use Rattle.std.proofs.lemmas.Bool.{and_parts}
@@ -10,7 +10,7 @@ use Rattle.s3_rows.specs.Validity.{IsValid, HasDistinctBlocks, any_kind, counts_
 use Rattle.row_lemmas.proofs.Tests.{list_all_weaker}
 use Rattle.tree_rows.specs.Premises.{HasPremises, FitsSizes, HasFreeIds, finds_directory_and_name}
 use Rattle.tree_rows.proofs.Validity.Premises.{ForSome_from_is, HasPremises_from_valid}
-use Rattle.row_steps.specs.Owed.{Owes, owes_links, owes_uses}
+use Rattle.row_steps.specs.Owed.{Owes, owes_links, owes_uses, times}
 use Rattle.row_steps.proofs.Owed.Inodes.{below_from_there}
 
 plus_none : (n : ℕ) → n + 0 ≡ n
@@ -64,3 +64,23 @@ module _ (t : Tables) where
             (and_parts (finds_directory_and_name t c) (has_inode any_kind t c.inode) own).1)
             t.contents valid.rows.entries;
       }
+
+-- what is owed, in another order
+pub Owes-times : (t : Tables) (p : Parameters) (links uses now : List ℕ) → Owes t p links uses → ((x : ℕ) → times x now ≡ times x links) → Owes t p now uses
+Owes-times t p links uses now o same = record {
+  made = o.made;
+  ordered = o.ordered;
+  unlike = o.unlike;
+  inodes =
+      list_all_weaker (owes_links t links) (owes_links t now) (λ r own. ap (λ n. r.refcount == listed_inode_count t r.id + n) (same r.id) ∙ own)
+      t.inodes o.inodes;
+  names = o.names;
+  blocks = o.blocks;
+  objects = o.objects;
+  rows = o.rows;
+  distinct = o.distinct;
+  sizes = o.sizes;
+  free = o.free;
+  numbers = o.numbers;
+  children = o.children;
+}

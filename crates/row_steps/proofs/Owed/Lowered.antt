@@ -1,14 +1,14 @@
 -- One use less of a name: other rows, and what is owed then.
 use Rattle.std.proofs.Common.{◌≡◌, ◌≤◌, ℕ, ◌+◌, ◌-◌, List, [], ◌∷◌, Bool, true, false, cond, Some, refl, sym, ap, ◌∙◌, arith, eq-eqb, eqb-true, leb-true}
-use Rattle.std.specs.Prelude.{IsTrue, not, ◌==◌, nat_le}
+use Rattle.std.specs.Prelude.{IsTrue, not, ◌==◌, find, is_some, nat_le, option_map}
 use Rattle.std.proofs.lemmas.Bool.{and_parts}
 use Rattle.std.specs.Cmp.{nat_cmp_total}
 use Rattle.std.specs.Ordering.{is_eq}
 use Rattle.plain_tree.specs.Tree.{Tree}
 use Rattle.s3_rows.specs.declared.change.Change.{Change}
 use Rattle.s3_rows.specs.declared.change.Change.TheVariants as changes
-use Rattle.s3_rows.specs.Rows.{Inode, Name, Parameters}
-use Rattle.s3_rows.specs.Keyed.{has_key, put, without}
+use Rattle.s3_rows.specs.Rows.{Inode, Name, Content, Parameters}
+use Rattle.s3_rows.specs.Keyed.{has_key, put, row_at, without}
 use Rattle.s3_rows.specs.Tables.{Tables, by_name}
 use Rattle.s3_rows.specs.Batches.{tables_after}
 use Rattle.s3_rows.specs.Selections.{name_at, bytes_cmp}
@@ -31,6 +31,9 @@ pub record IsLower (t : Tables) (p : Parameters) (links uses : List ℕ) (more :
   pub nodes : (x : Inode) → node_of_row (record t { names = rows }) x ≡ node_of_row t x
   pub represents : (whole : Tree) → Represents t whole → Represents (record t { names = rows }) whole
   pub unique : HasUniqueNames t → IsTrue (differ have_same_bytes rows)
+  -- the names of entries keep their bytes
+  pub kept : (test : Content → Bool) (x : Content) → find test t.contents ≡ Some x → IsTrue (is_some (name_at t x.name_id))
+      → option_map bytes_of_row (row_at by_name x.name_id rows) ≡ option_map bytes_of_row (name_at t x.name_id)
 
 abbrev same_text : List ℕ → List ℕ → Bool
 same_text a b = is_eq (bytes_cmp a b)
@@ -54,6 +57,10 @@ IsLower-lowered t p n links uses o there = by_case (n.refcount == 1) refl
               Represents-names t (without by_name n.id t.names) (λ x. not (x == n.id)) (unused t p n links uses o there last)
               (KeepsBytes-without t p n links uses o there last) o.rows.entries o.rows.attrs whole same;
           unique = λ unique. differ-filter have_same_bytes (λ r. not (has_key by_name n.id r)) t.names unique;
+          kept =
+              λ test x found some.
+              KeepsBytes-without t p n links uses o there last x.name_id
+              (find_passes_all test (λ (y : Content). not (y.name_id == n.id)) t.contents x (unused t p n links uses o there last).entries found) some;
         }
     by_case false is =
         let low : Name = record n { refcount = n.refcount - 1 } in
@@ -82,4 +89,5 @@ IsLower-lowered t p n links uses o there = by_case (n.refcount == 1) refl
               differ-map same_text bytes_of_row (put by_name low t.names)
               ∙ ap (differ same_text) (map-put_there by_name nat_cmp_total bytes_of_row low n t.names o.ordered.names there refl)
               ∙ sym (differ-map same_text bytes_of_row t.names) ∙ unique;
+          kept = λ test x found some. KeepsBytes-put t low (own_bytes t p n links (n.id ∷ uses) o there) x.name_id refl some;
         }

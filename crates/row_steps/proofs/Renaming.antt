@@ -1,0 +1,170 @@
+-- A Rename: its passed checks give what moves, and its effect is the entry moved.
+use Rattle.std.proofs.Common.{◌≡◌, ◌≤◌, ℕ, ◌+◌, List, [], ◌∷◌, ◌++◌, true, false, cond, None, Some, refl, sym, ap, ◌∙◌, subst, arith}
+use Rattle.std.specs.Prelude.{◌==◌}
+use Rattle.op_frames.specs.declared.operation.Op.TheVariants as ops
+use Rattle.plain_tree.specs.Tree.{Tree}
+use Rattle.plain_tree.specs.Checks.{first_failure}
+use Rattle.plain_tree.specs.Entries.{entry_at}
+use Rattle.plain_tree.specs.Operations.{checks, effect}
+use Rattle.plain_tree.specs.Subtrees.{dropped, is_same, moved_entry}
+use Rattle.plain_tree.specs.WellFormed.{IsWellFormed}
+use Rattle.s3_rows.specs.declared.change.Change.TheVariants as changes
+use Rattle.s3_rows.specs.Rows.{Inode, Name, Content, Parameters}
+use Rattle.s3_rows.specs.Tables.{Tables}
+use Rattle.s3_rows.specs.Batches.{tables_after}
+use Rattle.s3_rows.specs.Selections.{inode_at, name_of_bytes}
+use Rattle.s3_rows.specs.Selections as selections
+use Rattle.s3_rows.specs.Validity.{IsValid}
+use Rattle.tree_laws.proofs.Walk.Passed.{CanRename, can_move, can_rename}
+use Rattle.tree_rows.specs.Shapes.{Represents}
+use Rattle.ref_counts.specs.Names.{Raised, raised}
+use Rattle.ref_counts.specs.Plans.{IsStep}
+use Rattle.row_steps.specs.RowChanges.{counted_row, dropping, moving, name_of_replaced, other_name, same_name}
+use Rattle.row_steps.proofs.Leaving.{IsLeaving, entry_is}
+use Rattle.row_steps.proofs.MovedNames.{IsStep-other_name, IsStep-same_name}
+use Rattle.row_steps.proofs.Moving.{IsMoving, final}
+use Rattle.row_steps.proofs.NewNodes.{effect_well}
+use Rattle.row_steps.proofs.Place.{kind_there}
+use Rattle.row_steps.proofs.Replacing.{IsStep-replacing}
+
+pub itself_step : (t : Tables) (whole : Tree) (pass parent new_parent now : ℕ) (name new_name : List ℕ) → IsValid t → Represents t whole
+    → is_same (entry_at whole new_parent new_name) (entry_at whole parent name) ≡ true
+    → IsStep t (tables_after [] t) (effect whole pass (ops.Rename parent name new_parent new_name) now) 0
+itself_step t whole pass parent new_parent now name new_name v same one =
+    subst (λ (next : Tree). IsStep t t next 0)
+    (sym (ap (λ b. cond b whole (moved_entry parent name new_parent new_name now (entry_at whole parent name) whole)) one))
+    (record {
+      valid = v;
+      represents = same;
+      unique = λ unique. unique;
+      named = λ all. all;
+      rest = record {
+        params = refl;
+        next_inode = omega arith;
+        next_name = omega arith;
+        inode_blocks = refl;
+        blocks = refl;
+        objects = refl;
+        slots = refl;
+      };
+      small = record { names = omega arith; uses = omega arith };
+    })
+
+module _ (t : Tables) (whole : Tree) (p : Parameters) (d d2 r : Inode) (c : Content) (n : Name) (pass parent new_parent now : ℕ) (name new_name : List ℕ)
+    (v : IsValid t) (well : IsWellFormed whole) (same : Represents t whole) (made : t.params ≡ Some p) (found : inode_at t parent ≡ Some d)
+    (new_found : inode_at t new_parent ≡ Some d2) (bytes : name_of_bytes t name ≡ Some n) (entry : selections.entry_at t parent n.id ≡ Some c)
+    (row : inode_at t c.inode ≡ Some r) (passes : first_failure (checks whole pass (ops.Rename parent name new_parent new_name)) ≡ None) where
+  is_leaving : IsLeaving t whole p d r c n parent name
+  is_leaving =
+      let can : CanRename whole parent name new_parent new_name = can_rename whole pass parent name new_parent new_name passes in
+      record {
+        valid = v;
+        same = same;
+        params = made;
+        found = found;
+        kind = kind_there t whole v same parent d found can.there can.folder;
+        bytes = bytes;
+        entry = entry;
+        child = row;
+      }
+
+  tree_entry : entry_at whole parent name ≡ Some c.inode
+  tree_entry = entry_is t whole p d r c n now parent name is_leaving
+
+  module _ (differs : is_same (entry_at whole new_parent new_name) (entry_at whole parent name) ≡ false) where
+    pub is_moving : IsMoving t whole p d d2 r c n parent name new_parent new_name
+    is_moving = record { leaving = is_leaving; well = well; found = new_found; can = can_move whole pass parent name new_parent new_name passes differs }
+
+    pub effect_is : effect whole pass (ops.Rename parent name new_parent new_name) now
+        ≡ dropped now (entry_at whole new_parent new_name) (final t whole p d d2 r c n now parent name new_parent new_name is_moving)
+    effect_is =
+        ap (λ b. cond b whole (moved_entry parent name new_parent new_name now (entry_at whole parent name) whole)) differs
+        ∙ ap (λ e. moved_entry parent name new_parent new_name now e whole) tree_entry
+
+  module _ (absent : entry_at whole new_parent new_name ≡ None) where
+    apart : is_same (entry_at whole new_parent new_name) (entry_at whole parent name) ≡ false
+    apart = ap (λ e. is_same e (entry_at whole parent name)) absent
+
+    to_new_is : effect whole pass (ops.Rename parent name new_parent new_name) now ≡ final t whole p d d2 r c n now parent name new_parent new_name (is_moving apart)
+    to_new_is = effect_is apart ∙ ap (λ e. dropped now e (final t whole p d d2 r c n now parent name new_parent new_name (is_moving apart))) absent
+
+    well_after : IsWellFormed (final t whole p d d2 r c n now parent name new_parent new_name (is_moving apart))
+    well_after = subst IsWellFormed to_new_is (effect_well whole pass now (ops.Rename parent name new_parent new_name) well passes)
+
+    pub same_name_moved : new_name ≡ name → IsStep t (tables_after (moving d d2 c (same_name c) r now) t) (effect whole pass (ops.Rename parent name new_parent new_name) now) 0
+    same_name_moved alike =
+        subst (λ (next : Tree). IsStep t (tables_after (moving d d2 c (same_name c) r now) t) next 0) (sym to_new_is)
+        (IsStep-same_name t whole p d d2 r c n now parent name new_parent new_name (is_moving apart) alike absent well_after)
+
+    pub other_name_moved : (more : Raised) → raised (tables_after (dropping d c n now) t) new_name ≡ Some more
+        → IsStep t (tables_after (moving d d2 c (other_name n more) r now) t) (effect whole pass (ops.Rename parent name new_parent new_name) now) 1
+    other_name_moved more used =
+        subst (λ (next : Tree). IsStep t (tables_after (moving d d2 c (other_name n more) r now) t) next 1) (sym to_new_is)
+        (IsStep-other_name t whole p d d2 r c n now parent name new_parent new_name (is_moving apart) more used absent well_after)
+
+  -- over an entry of another inode, which has other entries still
+  module _ (r2 : Inode) (c2 : Content) (n2 : Name) (new_bytes : name_of_bytes t new_name ≡ Some n2) (new_entry : selections.entry_at t new_parent n2.id ≡ Some c2)
+      (new_row : inode_at t c2.inode ≡ Some r2) (other : (c2.inode == c.inode) ≡ false) where
+    replaced : IsLeaving t whole p d2 r2 c2 n2 new_parent new_name
+    replaced =
+        let can : CanRename whole parent name new_parent new_name = can_rename whole pass parent name new_parent new_name passes in
+        record {
+          valid = v;
+          same = same;
+          params = made;
+          found = new_found;
+          kind = kind_there t whole v same new_parent d2 new_found can.new_there can.new_folder;
+          bytes = new_bytes;
+          entry = new_entry;
+          child = new_row;
+        }
+
+    there : entry_at whole new_parent new_name ≡ Some c2.inode
+    there = entry_is t whole p d2 r2 c2 n2 now new_parent new_name replaced
+
+    differ : is_same (entry_at whole new_parent new_name) (entry_at whole parent name) ≡ false
+    differ = (λ i. is_same (there i) (tree_entry i)) ∙ other
+
+    over_is : effect whole pass (ops.Rename parent name new_parent new_name) now
+        ≡ dropped now (Some c2.inode) (final t whole p d d2 r c n now parent name new_parent new_name (is_moving differ))
+    over_is = effect_is differ ∙ ap (λ e. dropped now e (final t whole p d d2 r c n now parent name new_parent new_name (is_moving differ))) there
+
+    pub replaced_moved : (count : ℕ) → count + 1 ≡ r2.refcount → 1 ≤ count
+        → IsStep t (tables_after (moving d d2 c (name_of_replaced n c2) r now ++ changes.PutInode (counted_row count now r2) ∷ []) t)
+        (effect whole pass (ops.Rename parent name new_parent new_name) now) 0
+    replaced_moved count one_less some =
+        subst (λ (next : Tree). IsStep t (tables_after (moving d d2 c (name_of_replaced n c2) r now ++ changes.PutInode (counted_row count now r2) ∷ []) t) next 0)
+        (sym over_is)
+        (IsStep-replacing t whole p d d2 r r2 c c2 n n2 now parent name new_parent new_name (is_moving differ) replaced count one_less some
+        (subst IsWellFormed over_is (effect_well whole pass now (ops.Rename parent name new_parent new_name) well passes)))
+
+pub same_name_step : (t : Tables) (whole : Tree) (p : Parameters) (d d2 r : Inode) (c : Content) (n : Name) (pass parent new_parent now : ℕ) (name : List ℕ)
+    → IsValid t → IsWellFormed whole → Represents t whole → t.params ≡ Some p → inode_at t parent ≡ Some d → inode_at t new_parent ≡ Some d2
+    → name_of_bytes t name ≡ Some n → selections.entry_at t parent n.id ≡ Some c → inode_at t c.inode ≡ Some r
+    → first_failure (checks whole pass (ops.Rename parent name new_parent name)) ≡ None → entry_at whole new_parent name ≡ None
+    → IsStep t (tables_after (moving d d2 c (same_name c) r now) t) (effect whole pass (ops.Rename parent name new_parent name) now) 0
+same_name_step t whole p d d2 r c n pass parent new_parent now name v well same made found new_found bytes entry row passes absent =
+    same_name_moved t whole p d d2 r c n pass parent new_parent now name name v well same made found new_found bytes entry row passes absent refl
+
+pub other_name_step : (t : Tables) (whole : Tree) (p : Parameters) (d d2 r : Inode) (c : Content) (n : Name) (more : Raised) (pass parent new_parent now : ℕ)
+    (name new_name : List ℕ)
+    → IsValid t → IsWellFormed whole → Represents t whole → t.params ≡ Some p → inode_at t parent ≡ Some d → inode_at t new_parent ≡ Some d2
+    → name_of_bytes t name ≡ Some n → selections.entry_at t parent n.id ≡ Some c → inode_at t c.inode ≡ Some r
+    → first_failure (checks whole pass (ops.Rename parent name new_parent new_name)) ≡ None → entry_at whole new_parent new_name ≡ None
+    → raised (tables_after (dropping d c n now) t) new_name ≡ Some more
+    → IsStep t (tables_after (moving d d2 c (other_name n more) r now) t) (effect whole pass (ops.Rename parent name new_parent new_name) now) 1
+other_name_step t whole p d d2 r c n more pass parent new_parent now name new_name v well same made found new_found bytes entry row passes absent used =
+    other_name_moved t whole p d d2 r c n pass parent new_parent now name new_name v well same made found new_found bytes entry row passes absent more used
+
+pub replaced_step : (t : Tables) (whole : Tree) (p : Parameters) (d d2 r r2 : Inode) (c c2 : Content) (n n2 : Name) (pass parent new_parent now count : ℕ)
+    (name new_name : List ℕ)
+    → IsValid t → IsWellFormed whole → Represents t whole → t.params ≡ Some p → inode_at t parent ≡ Some d → inode_at t new_parent ≡ Some d2
+    → name_of_bytes t name ≡ Some n → selections.entry_at t parent n.id ≡ Some c → inode_at t c.inode ≡ Some r
+    → name_of_bytes t new_name ≡ Some n2 → selections.entry_at t new_parent n2.id ≡ Some c2 → inode_at t c2.inode ≡ Some r2
+    → first_failure (checks whole pass (ops.Rename parent name new_parent new_name)) ≡ None → (c2.inode == c.inode) ≡ false
+    → count + 1 ≡ r2.refcount → 1 ≤ count
+    → IsStep t (tables_after (moving d d2 c (name_of_replaced n c2) r now ++ changes.PutInode (counted_row count now r2) ∷ []) t)
+    (effect whole pass (ops.Rename parent name new_parent new_name) now) 0
+replaced_step t whole p d d2 r r2 c c2 n n2 pass parent new_parent now count name new_name v well same made found new_found bytes entry row new_bytes new_entry new_row passes other one_less some =
+    replaced_moved t whole p d d2 r c n pass parent new_parent now name new_name v well same made found new_found bytes entry row passes
+    r2 c2 n2 new_bytes new_entry new_row other count one_less some
