@@ -38,8 +38,9 @@ use Rattle.tree_rows.specs.Attrs.{attr_of_row}
 use Rattle.tree_rows.specs.Shapes.{NodeShape, TreeShape, shape_of_node, node_of_row, Represents}
 use Rattle.tree_rows.proofs.Attributed.{attr_alike}
 use Rattle.tree_rows.proofs.Rooted.{link_count_is}
-use Rattle.inode_ops.specs.Answers.{answer_plan, IsReplyOf}
-use Rattle.inode_ops.proofs.Planned.{idle_planned, from_row}
+use Rattle.ref_counts.specs.Answers.{answer_plan, IsReplyOf}
+use Rattle.ref_counts.proofs.Idle.{if_reply_of}
+use Rattle.inode_ops.proofs.Planned.{idle_planned}
 
 -- ---- open
 
@@ -50,7 +51,7 @@ open_planned t whole pass x now h found replied v same has is checked made =
     let node : node_check (node_at whole x) ≡ row_check found = node_check-row t whole same x ∙ ap row_check (sym is) in
     let file : file_check (node_at whole x) ≡ file_row_check found = file_check-row t whole same x ∙ ap file_row_check (sym is) in
     idle_planned t whole pass (ops.Open x) now replied _ v same checked (λ i. first_failure (node i ∷ file i ∷ fails_with enospc (nat_le (2 ^ 62) (has.0 i)) ∷ []))
-    (from_row replied found (inode_at t x) _ _ is made (λ r there few.
+    (if_reply_of replied found (inode_at t x) _ _ is made (λ r there few.
     let seen = node_there t whole same x r there in
     let reply : replies.Opened whole.next_handle (attr_of whole x seen.0) ≡ replies.Opened h.next (attr_of_row r) = λ i. replies.Opened (has.0 i) (attr_alike t whole x r seen.0 v same there few seen.2 i) in
     sym (ap (λ (n : Option Node). elim n as (λ _. Reply) [ Some node ↦ replies.Opened whole.next_handle (attr_of whole x node) | None ↦ replies.Done ]) seen.1 ∙ reply)))

@@ -30,9 +30,10 @@ use Rattle.tree_rows.proofs.Whole.{number_of}
 use Rattle.op_checks.specs.Checks.{Checks}
 use Rattle.op_checks.specs.Rows.{row_check, lock_row_check}
 use Rattle.op_checks.proofs.Nodes.{node_check-row, lock_check-row}
-use Rattle.ref_counts.specs.Names.{raised}
-use Rattle.ref_counts.specs.Plans.{IsPlanOf, IsStep, LeavesRest, IsSmall, AreNamed, IsWorn}
-use Rattle.inode_ops.specs.Answers.{put_plan, answer_plan, IsChangedRow, IsReplyOf}
+use Rattle.ref_counts.specs.Plans.{IsPlanOf, IsStep, LeavesRest, IsSmall, AreNamed}
+use Rattle.ref_counts.specs.Answers.{answer_plan, IsReplyOf}
+use Rattle.ref_counts.proofs.Idle.{IsWorn-nameless, IsPlanOf-idle, if_reply_of}
+use Rattle.inode_ops.specs.Answers.{put_plan, IsChangedRow}
 
 -- ---- steps
 
@@ -42,17 +43,6 @@ same_rest t rows = record { params = refl; next_inode = omega arith; next_name =
 
 same_small : (t : Tables) (rows : List Inode) (drawn : ℕ) → IsSmall drawn t (record t { inodes = rows })
 same_small t rows drawn = record { names = omega arith; uses = omega arith }
-
--- nothing is changed
-pub idle : (t : Tables) (next : Tree) (drawn : ℕ) → IsValid t → Represents t next → IsStep t t next drawn
-idle t next drawn v same = record {
-  valid = v;
-  represents = same;
-  unique = λ (u : HasUniqueNames t). u;
-  named = λ (n : AreNamed t). n;
-  rest = same_rest t t.inodes;
-  small = same_small t t.inodes drawn;
-}
 
 -- an inode's row is replaced by one of the same count
 replaced_named : (t : Tables) (r new : Inode) → inode_at t new.id ≡ Some r → new.refcount ≡ r.refcount → AreNamed t → AreNamed (after_change (changes.PutInode new) t)
@@ -72,33 +62,21 @@ replaced t next drawn r new is count valid represents = record {
   small = same_small t (after_change (changes.PutInode new) t).inodes drawn;
 }
 
--- an operation that needs no name finds none worn
-never_worn : (t : Tables) (whole : Tree) (op : Op) → name_used whole op ≡ None → IsWorn t whole op → ⊥
-never_worn t whole op nameless worn =
-    let none : ⊥ = subst (λ (used : Option (List ℕ)). elim used as (λ _. Type 0) [ Some name ↦ raised t name ≡ None | None ↦ ⊥ ]) nameless worn in
-    none
-
 -- ---- no row is changed
 
 -- What checks answered is the plan of an operation that changes no row, where the reply is that of its success.
 pub idle_planned : (t : Tables) (whole : Tree) (pass : ℕ) (op : Op) (now : ℕ) (replied : Result Reply Errno) (check : Option ℕ) → IsValid t → Represents t (effect whole pass op now) → Checks replied check
     → first_failure (checks whole pass op) ≡ check → IfOk replied (λ reply. reply ≡ success whole pass op now) → true ≡ keeps_rows whole pass op → name_used whole op ≡ None
     → IsPlanOf t whole pass op now (answer_plan replied)
-idle_planned t whole pass op now (Ok reply) check v same checked own is keeps nameless = (own ∙ checked, is, idle t (effect whole pass op now) (names_drawn whole op) v same, keeps, refl, never_worn t whole op nameless)
+idle_planned t whole pass op now (Ok reply) check v same checked own is keeps nameless = IsPlanOf-idle t whole pass op now reply v same (own ∙ checked) is keeps nameless
 idle_planned t whole pass op now (Err errno) check v same checked own is keeps nameless = own ∙ checked
-
--- a fact of a reply that was made of a row
-pub from_row : (replied : Result Reply Errno) (found own : Option Inode) (make : Inode → Reply) (reply : Reply) → found ≡ own → IfOk replied (IsReplyOf found make)
-    → ((r : Inode) → own ≡ Some r → r.refcount < 2 ^ 62 → make r ≡ reply) → IfOk replied (λ x. x ≡ reply)
-from_row (Ok x) found own make reply same is follows = is.2 ∙ follows is.0 (sym same ∙ is.1) is.3
-from_row (Err errno) found own make reply same is follows = tt
 
 pub getattr_planned : (t : Tables) (whole : Tree) (pass x now : ℕ) (found : Option Inode) (replied : Result Reply Errno) → IsValid t → Represents t whole → found ≡ inode_at t x
     → Checks replied (first_failure (row_check found ∷ [])) → IfOk replied (IsReplyOf found (λ r. replies.Attr (attr_of_row r))) → IsPlanOf t whole pass (ops.Getattr x) now (answer_plan replied)
 getattr_planned t whole pass x now found replied v same is checked made =
     idle_planned t whole pass (ops.Getattr x) now replied (first_failure (row_check found ∷ [])) v same checked
     (ap (λ c. first_failure (c ∷ [])) (node_check-row t whole same x ∙ ap row_check (sym is)))
-    (from_row replied found (inode_at t x) _ _ is made (λ r there few. sym (attr_is t whole x r v same there few))) refl refl
+    (if_reply_of replied found (inode_at t x) _ _ is made (λ r there few. sym (attr_is t whole x r v same there few))) refl refl
 
 -- ---- one row is changed
 
@@ -133,7 +111,7 @@ module _ (t : Tables) (whole : Tree) (pass x : ℕ) (op : Op) (now : ℕ) (chang
         subst (λ (y : Tree). IsStep t after y (names_drawn whole op)) (ap (λ y. change_node y f whole) (sym own) ∙ sym does) step,
         changes_rows,
         refl,
-        never_worn t whole op nameless,
+        IsWorn-nameless t whole op nameless,
       )
 
   pub changed_planned : (found : Option Inode) (answered : Result Inode Errno) (check : Option ℕ) → found ≡ inode_at t x → Checks answered check → first_failure (checks whole pass op) ≡ check

@@ -30,7 +30,7 @@ use Rattle.ref_counts.specs.Plans.{IsPlanOf}
 use Rattle.inode_ops.specs.declared.statfs.Tally.{Tally}
 use Rattle.inode_ops.specs.Tallies.{IsCounted, bytes_of_row}
 use Rattle.inode_ops.proofs.Planned.{idle_planned}
-use Rattle.inode_ops.specs.Answers.{answer_plan}
+use Rattle.ref_counts.specs.Answers.{answer_plan}
 use Rattle.op_frames.specs.declared.reply.Reply.{Reply}
 use Rattle.s3_base.specs.declared.errors.Errno.{Errno}
 use Rattle.std.specs.Prelude.{Result, Ok}

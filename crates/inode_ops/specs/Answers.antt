@@ -1,7 +1,6 @@
 -- Plans made of what checks have answered.
 use Rattle.std.specs.Prelude.{◌≡◌, ◌^◌, ◌<◌, [], ◌∷◌, Option, Some, Result, Ok, Err}
 use Rattle.s3_base.specs.declared.errors.Errno.{Errno}
-use Rattle.op_frames.specs.declared.reply.Reply.{Reply}
 use Rattle.op_frames.specs.declared.reply.Reply.TheVariants as replies
 use Rattle.s3_rows.specs.declared.change.Change.TheVariants as changes
 use Rattle.s3_rows.specs.Rows.{Inode}
@@ -14,15 +13,6 @@ abbrev pub put_plan : Result Inode Errno → Plan
 put_plan (Ok r) = plans.Commit (changes.PutInode r ∷ []) (replies.Attr (attr_of_row r)) []
 put_plan (Err errno) = plans.Refuse errno
 
--- no row is changed, and this is the reply; or the error is the refusal
-abbrev pub answer_plan : Result Reply Errno → Plan
-answer_plan (Ok reply) = plans.Commit [] reply []
-answer_plan (Err errno) = plans.Refuse errno
-
 -- the new row is made of the one that was found
 abbrev pub IsChangedRow : Option Inode → (Inode → Inode) → Inode → Type 0
 IsChangedRow found change new = (r : Inode) × (found ≡ Some r) × (new ≡ change r) × (new.refcount < 2 ^ 62)
-
--- the reply is made of the row that was found
-abbrev pub IsReplyOf : Option Inode → (Inode → Reply) → Reply → Type 0
-IsReplyOf found make reply = (r : Inode) × (found ≡ Some r) × (reply ≡ make r) × (r.refcount < 2 ^ 62)

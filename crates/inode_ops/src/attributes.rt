@@ -12,12 +12,13 @@ ghost use Rattle.tree_rows.specs.Shapes.{Represents};
 ghost use Rattle.op_checks.specs.Checks.{Checks};
 ghost use Rattle.op_checks.specs.Rows.{row_check, lock_row_check};
 ghost use Rattle.ref_counts.specs.Plans.{IsPlanOf, HasFitReply, is_fit};
-ghost use Rattle.inode_ops.specs.Answers.{IsChangedRow, IsReplyOf};
+ghost use Rattle.ref_counts.specs.Answers.{IsReplyOf};
+ghost use Rattle.inode_ops.specs.Answers.{IsChangedRow};
 
-use crate::answers::{answer, put};
+use crate::answers::put;
 use op_checks::{check_mode, check_node, check_time, check_unlocked};
 use op_frames::Reply;
-use ref_counts::{Plan, attr_of};
+use ref_counts::{Plan, answer, attr_of};
 use s3_base::Errno;
 use s3_rows::InodeRow;
 use std::alloc::{AllocError, Global};

@@ -16,12 +16,11 @@ ghost use Rattle.op_checks.specs.Checks.{Checks};
 ghost use Rattle.op_checks.specs.Rows.{row_check, file_row_check, open_row_check};
 ghost use Rattle.ref_counts.specs.Handles.{HasHandles};
 ghost use Rattle.ref_counts.specs.Plans.{AreNamed, IsPlanOf, HasFitReply, is_fit};
-ghost use Rattle.inode_ops.specs.Answers.{IsReplyOf, answer_plan};
+ghost use Rattle.ref_counts.specs.Answers.{IsReplyOf, answer_plan};
 
-use crate::answers::answer;
 use op_checks::{check_file, check_hand, check_node, check_open};
 use op_frames::Reply;
-use ref_counts::{Handles, Plan, attr_of};
+use ref_counts::{Handles, Plan, answer, attr_of};
 use s3_base::Errno;
 use s3_rows::{InodeRow, Keeper, KeeperFault};
 use std::alloc::Global;

@@ -11,12 +11,11 @@ ghost use Rattle.plain_tree.specs.Classes.{class_of, is_closing};
 ghost use Rattle.ref_counts.specs.Plans.{AreNamed, IsPlanOf, HasFitReply};
 ghost use Rattle.inode_ops.specs.Plans.{is_planned};
 
-use crate::answers::answer;
 use crate::attributes::{chmod_of, chown_of, getattr_of, utimes_of};
 use crate::handles_of::{open_of, release};
 use crate::statfs::statfs;
 use op_frames::{Op, Reply};
-use ref_counts::{Handles, Plan};
+use ref_counts::{Handles, Plan, answer};
 use s3_rows::{Keeper, KeeperFault};
 use std::alloc::Global;
 

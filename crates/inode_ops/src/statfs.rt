@@ -12,9 +12,8 @@ ghost use Rattle.tree_rows.specs.Shapes.{Represents};
 ghost use Rattle.ref_counts.specs.Plans.{IsPlanOf, HasFitReply};
 ghost use Rattle.inode_ops.specs.Tallies.{IsCounted, has_short_key, bytes_of_row, with_row, with_rows};
 
-use crate::answers::answer;
 use op_frames::Reply;
-use ref_counts::Plan;
+use ref_counts::{Plan, answer};
 use s3_base::Kind;
 use s3_rows::{Keeper, KeeperFault, Params, Row, RowKey, TableName};
 use std::alloc::Global;

@@ -1,2 +1,3 @@
 pub mod Forbidden
 pub mod Nodes
+pub mod RowKinds

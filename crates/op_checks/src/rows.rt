@@ -1,12 +1,12 @@
 //! The checks on nodes, from their rows, and on what is left of numbers.
-ghost use Rattle.std.specs.Prelude.{◌≡◌, ◌+◌, ◌<◌, ◌≤◌, ◌^◌, Some, IfOk, is_some};
+ghost use Rattle.std.specs.Prelude.{◌≡◌, ◌+◌, ◌<◌, ◌≤◌, ◌^◌, Some, IfOk, is_some, option_map};
 ghost use Rattle.s3_base.specs.Errors.{eexist, enoent, enospc};
-ghost use Rattle.plain_tree.specs.Checks.{fails_with, entry_check};
+ghost use Rattle.plain_tree.specs.Checks.{fails_with, entry_check, attribute_check};
 ghost use Rattle.op_checks.specs.Checks.{Checks};
 ghost use Rattle.op_checks.specs.Rows.{row_check, directory_row_check, file_row_check, link_row_check, no_directory_row_check, lock_row_check, open_row_check, ids_row_check};
 
 use s3_base::{Errno, Kind, LIMIT};
-use s3_rows::{InodeRow, Params};
+use s3_rows::{AttrRow, InodeRow, Params};
 
 /// The row: ENOENT where there is none.
 pub fn check_node(found: Option<InodeRow>) -> Result<InodeRow, Errno>
@@ -95,6 +95,14 @@ pub fn check_entry(found: Option<u64>) -> Result<u64, Errno>
     ensures inode { IfOk result (λ inode. found ≡ Some inode) }
 {
     found.ok_or(Errno::ENOENT)
+}
+
+/// The row of an attribute: ENODATA where there is no such attribute.
+pub fn check_attribute(found: Option<AttrRow>) -> Result<AttrRow, Errno>
+    ensures check { Checks result (attribute_check (option_map (λ a. a.value) found)) }
+    ensures row { IfOk result (λ a. found ≡ Some a) }
+{
+    found.ok_or(Errno::ENODATA)
 }
 
 /// ENOSPC where there are not so many inode numbers left.

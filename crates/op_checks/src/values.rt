@@ -1,5 +1,5 @@
 //! The checks that need no tables.
-ghost use Rattle.std.specs.Prelude.{◌≡◌, ◌==◌, ◌||◌, ℕ, length};
+ghost use Rattle.std.specs.Prelude.{◌≡◌, ◌<◌, ◌≤◌, ◌==◌, ◌||◌, ℕ, length, IfOk};
 ghost use Rattle.std.specs.List.{list_any};
 ghost use Rattle.s3_base.specs.Names.{is_forbidden_name};
 ghost use Rattle.plain_tree.specs.Tree.{Tree};
@@ -109,7 +109,9 @@ pub fn check_mode(mode: u16) -> Result<(), Errno>
 
 /// EINVAL where a page of no entry is asked for, or of more than 256.
 pub fn check_page(max: u16) -> Result<(), Errno>
-    ensures { Checks result (page_check max) }
+    ensures check { Checks result (page_check max) }
+    ensures some { IfOk result (λ _. 0 < max) }
+    ensures few { IfOk result (λ _. max ≤ 256) }
 {
     if max == 0 || max > MAX_PAGE {
         return Err(Errno::EINVAL);

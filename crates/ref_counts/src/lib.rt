@@ -14,5 +14,5 @@ pub use attr::attr_of;
 pub use handles::{Handle, Handles};
 pub use lowered::name_down;
 pub use names::name_up;
-pub use plan::Plan;
+pub use plan::{Plan, answer};
 pub use removal::drop_file;
