@@ -11,6 +11,8 @@ enum Field {
     Long,
     /// A number of four bytes.
     Middle,
+    /// A number of two bytes.
+    Short,
     /// A number of two bytes, in octal.
     Mode,
     /// Bytes behind their length of two bytes.
@@ -30,6 +32,10 @@ const INODE: &[Field] = &[Field::Long];
 
 const PLACE_AND_NUMBER: &[Field] = &[Field::Long, Field::Long];
 
+const INODE_AND_NAME: &[Field] = &[Field::Long, Field::Name];
+
+const PAGE: &[Field] = &[Field::Long, Field::Name, Field::Short];
+
 const ENTRY: &[Field] = &[
     Field::Long,
     Field::Name,
@@ -41,6 +47,7 @@ const ENTRY: &[Field] = &[
 /// The shape of the operation that a word names.
 fn shape_of(word: &str) -> Option<Shape> {
     let (code, fields): (u8, &'static [Field]) = match word {
+        "lookup" => (1, INODE_AND_NAME),
         "getattr" => (2, INODE),
         "chmod" => (3, &[Field::Long, Field::Mode]),
         "chown" => (4, &[Field::Long, Field::Middle, Field::Middle]),
@@ -48,12 +55,16 @@ fn shape_of(word: &str) -> Option<Shape> {
         "truncate" => (6, PLACE_AND_NUMBER),
         "mkdir" => (7, ENTRY),
         "create" => (8, ENTRY),
+        "readlink" => (14, INODE),
         "open" => (15, INODE),
         "release" => (16, INODE),
         "read" => (17, &[Field::Long, Field::Long, Field::Middle]),
         "write" => (18, &[Field::Long, Field::Long, Field::Data]),
+        "readdir" => (20, PAGE),
         "statfs" => (21, &[]),
         "flushcache" => (29, &[]),
+        "getxattr" => (23, INODE_AND_NAME),
+        "listxattr" => (24, PAGE),
         "leave" => (32, &[]),
         _ => return None,
     };
@@ -69,6 +80,13 @@ fn put_long(frame: &mut Vec<u8>, word: &str) -> Result<(), AllocError> {
 
 fn put_middle(frame: &mut Vec<u8>, word: &str) -> Result<(), AllocError> {
     match word.parse::<u32>() {
+        Ok(number) => frame.extend_from_slice(&number.to_be_bytes()),
+        Err(_) => Ok(()),
+    }
+}
+
+fn put_short(frame: &mut Vec<u8>, word: &str) -> Result<(), AllocError> {
+    match word.parse::<u16>() {
         Ok(number) => frame.extend_from_slice(&number.to_be_bytes()),
         Err(_) => Ok(()),
     }
@@ -114,6 +132,7 @@ fn put_field(alloc: Global, frame: &mut Vec<u8>, field: Field, word: &str) -> io
     match field {
         Field::Long => put_long(frame, word)?,
         Field::Middle => put_middle(frame, word)?,
+        Field::Short => put_short(frame, word)?,
         Field::Mode => put_mode(frame, word)?,
         Field::Name => put_name(alloc, frame, word)?,
         Field::Data => put_data(alloc, frame, word)?,

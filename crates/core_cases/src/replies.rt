@@ -1,7 +1,7 @@
 //! Replies in words.
 
-use op_frames::{Attr, Cause, Reply};
-use s3_base::Kind;
+use op_frames::{Attr, Cause, DirEntry, Reply};
+use s3_base::{ByteList, Kind};
 use std::alloc::Global;
 use std::io;
 
@@ -42,6 +42,35 @@ fn bytes_text(alloc: Global, bytes: &[u8]) -> io::Result<String> {
     Ok(format!(in alloc; "bytes {digits}")?)
 }
 
+/// Entries of a directory: inode, kind and name of each.
+fn entries_text(alloc: Global, entries: &[DirEntry]) -> io::Result<String> {
+    if entries.is_empty() {
+        return Ok(format!(in alloc; "no entries")?);
+    }
+    let mut text = format!(in alloc; "entries")?;
+    for entry in entries {
+        let inode = entry.inode;
+        let kind = kind_word(entry.kind);
+        let name = hex::encode(alloc, entry.name.as_slice())?;
+        let one = format!(in alloc; " {inode} {kind} {name}")?;
+        text.push_str(&one)?;
+    }
+    Ok(text)
+}
+
+fn names_text(alloc: Global, names: &[ByteList]) -> io::Result<String> {
+    if names.is_empty() {
+        return Ok(format!(in alloc; "no names")?);
+    }
+    let mut text = format!(in alloc; "names")?;
+    for name in names {
+        let digits = hex::encode(alloc, name.as_slice())?;
+        let one = format!(in alloc; " {digits}")?;
+        text.push_str(&one)?;
+    }
+    Ok(text)
+}
+
 fn cause_word(cause: Cause) -> &'static str {
     match cause {
         Cause::Link => "link",
@@ -79,8 +108,8 @@ pub fn reply_text(alloc: Global, reply: &Reply) -> io::Result<String> {
             let word = cause_word(*cause);
             Ok(format!(in alloc; "fault {word}")?)
         }
-        Reply::Entries(_) | Reply::Names(_) | Reply::Lost { .. } => {
-            Ok(format!(in alloc; "a reply without words")?)
-        }
+        Reply::Entries(entries) => entries_text(alloc, entries.as_slice()),
+        Reply::Names(names) => names_text(alloc, names.as_slice()),
+        Reply::Lost { .. } => Ok(format!(in alloc; "a reply without words")?),
     }
 }

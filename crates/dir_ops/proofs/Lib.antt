@@ -1,5 +1,7 @@
-pub mod NewEntry
+pub mod ChildRow
+pub mod DirectoryRows
+pub mod EntryRows
 pub mod NewDirectory
+pub mod NewEntry
 pub mod NewFile
 pub mod Placed
-pub mod Taken

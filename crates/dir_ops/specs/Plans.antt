@@ -8,7 +8,7 @@ use Rattle.s3_rows.specs.declared.change.Change.{Change}
 use Rattle.ref_counts.specs.declared.plan.Plan.{Plan}
 use Rattle.ref_counts.specs.declared.plan.Plan.TheVariants as plans
 
--- the operations that this crate plans: those on entries that are built, now Create and Mkdir
+-- the operations that this crate plans: those on entries that are built
 abbrev pub is_planned : Op → Bool
 is_planned op = is_of_entries (class_of op) && is_built op
 

@@ -6,6 +6,8 @@ mod entries;
 mod mkdir;
 mod new_entry;
 mod places;
+mod lookup;
 mod plans;
+mod readdir;
 
 pub use plans::plan;

@@ -13,14 +13,16 @@ ghost use Rattle.ref_counts.specs.Plans.{IsPlanOf, HasFitReply};
 ghost use Rattle.dir_ops.specs.Plans.{is_planned};
 
 use crate::create::plan_create;
+use crate::lookup::plan_lookup;
 use crate::mkdir::plan_mkdir;
 use crate::new_entry::NewInode;
+use crate::readdir::plan_readdir;
 use op_frames::Op;
 use ref_counts::{Handles, Plan};
 use s3_rows::{Keeper, KeeperFault};
 use std::alloc::Global;
 
-/// The plan of an operation of a pass on entries of directories, at a time: now Create and Mkdir. It commits nothing.
+/// The plan of an operation of a pass on entries of directories, at a time: Lookup, Mkdir, Create or Readdir. It commits nothing.
 pub fn plan<K: Keeper>(
     alloc: Global,
     keeper: &mut K,
@@ -38,6 +40,7 @@ pub fn plan<K: Keeper>(
     ensures fit { IfOk result HasFitReply }
 {
     match op {
+        Op::Lookup { parent, name } => plan_lookup(alloc, keeper, *parent, name),
         Op::Create {
             parent,
             name,
@@ -75,6 +78,7 @@ pub fn plan<K: Keeper>(
                 now,
             },
         ),
+        Op::Readdir { inode, after, max } => plan_readdir(alloc, keeper, *inode, after, *max),
         _ => unreachable!(),
     }
 }

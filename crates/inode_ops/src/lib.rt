@@ -5,6 +5,7 @@ mod answers;
 mod attributes;
 mod handles_of;
 mod plans;
+mod reading;
 mod statfs;
 
 pub use plans::plan;

@@ -2,7 +2,7 @@
 ghost use Rattle.std.specs.Prelude.{◌≡◌, ◌<◌, ◌^◌, ℕ, IsTrue, IfOk};
 ghost use Rattle.s3_base.specs.Faults.{HasCause};
 ghost use Rattle.s3_rows.specs.Told.{IfTold, has_failed};
-ghost use Rattle.s3_rows.specs.Validity.{IsValid};
+ghost use Rattle.s3_rows.specs.Validity.{IsValid, HasUniqueNames};
 ghost use Rattle.plain_tree.specs.Tree.{Tree};
 ghost use Rattle.plain_tree.specs.WellFormed.{IsWellFormed};
 ghost use Rattle.tree_rows.specs.Shapes.{Represents};
@@ -13,14 +13,15 @@ ghost use Rattle.inode_ops.specs.Plans.{is_planned};
 
 use crate::attributes::{chmod_of, chown_of, getattr_of, utimes_of};
 use crate::handles_of::{open_of, release};
+use crate::reading::{getxattr, listxattr, readlink};
 use crate::statfs::statfs;
 use op_frames::{Op, Reply};
 use ref_counts::{Handles, Plan, answer};
 use s3_rows::{Keeper, KeeperFault};
 use std::alloc::Global;
 
-/// The plan of an operation of a pass at a time: Getattr, Chmod, Chown, Utimes, Open, Release, Statfs or Leave. It commits
-/// nothing, and leaves the handles as they are.
+/// The plan of an operation of a pass at a time: Getattr, Chmod, Chown, Utimes, Readlink, Open, Release, Statfs, Getxattr,
+/// Listxattr or Leave. It commits nothing, and leaves the handles as they are.
 pub fn plan<K: Keeper>(
     alloc: Global,
     keeper: &mut K,
@@ -32,7 +33,7 @@ pub fn plan<K: Keeper>(
     requires planned { IsTrue (is_planned op.now) }
     requires now { now < 2 ^ 62 }
     // Where handles go, every inode has a name, so that nothing goes with them.
-    ensures plan { IfOk result (λ p. IfTold (K.told keeper.old) (λ t. IsValid t → (IsTrue (is_closing (class_of op.now)) → AreNamed t)
+    ensures plan { IfOk result (λ p. IfTold (K.told keeper.old) (λ t. IsValid t → HasUniqueNames t → (IsTrue (is_closing (class_of op.now)) → AreNamed t)
         → (whole : Tree) → Represents t whole → IsWellFormed whole → HasHandles handles.now whole → IsPlanOf t whole pass op.now now p)) }
     ensures same { K.told keeper.new ≡ K.told keeper.old }
     ensures cause { HasCause (K.faults keeper.old) (K.faults keeper.new) (has_failed result) }
@@ -55,12 +56,15 @@ pub fn plan<K: Keeper>(
             let found = keeper.inode(*inode)?;
             Ok(utimes_of(alloc, found, *mtime, now)?)
         }
+        Op::Readlink { inode } => readlink(alloc, keeper, *inode),
         Op::Open { inode } => {
             let found = keeper.inode(*inode)?;
             Ok(open_of(alloc, found, handles))
         }
         Op::Release { handle } => release(alloc, keeper, handles, pass, *handle),
         Op::Statfs => statfs(alloc, keeper),
+        Op::Getxattr { inode, name } => getxattr(alloc, keeper, *inode, name),
+        Op::Listxattr { inode, after, max } => listxattr(alloc, keeper, *inode, after, *max),
         Op::Leave => Ok(answer(alloc, Ok(Reply::Done))),
         _ => unreachable!(),
     }

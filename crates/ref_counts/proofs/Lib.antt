@@ -1,6 +1,6 @@
 pub mod AttrKeys
-pub mod NameRows
 pub mod Idle
+pub mod NameRows
 pub mod Named
 pub mod NamedRows
 pub mod Numbers

@@ -1,6 +1,6 @@
 -- Handles and bytes after operations that are carried out by their plans.
 use Rattle.std.proofs.Common.{◌≡◌, ◌≢◌, ℕ, ◌+◌, ◌≤◌, List, [], ◌∷◌, ◌++◌, false, Option, None, Some, refl, sym, ap, ◌∙◌, subst, arith}
-use Rattle.std.specs.Prelude.{IsTrue, ◌==◌, ◌&&◌, ◌||◌, length, not, filter, option_and_then}
+use Rattle.std.specs.Prelude.{IsTrue, ◌==◌, ◌&&◌, ◌||◌, length, not, filter, option_and_then, unwrap_or}
 use Rattle.std.specs.Map.{remove_entry}
 use Rattle.std.specs.Ordering.{nat_cmp}
 use Rattle.std.specs.BTreeMap.{insert_entry, is_at}
@@ -18,8 +18,10 @@ use Rattle.plain_tree.specs.Built.{is_built}
 use Rattle.plain_tree.specs.Classes.{Bytes, Class, Trees, class_of, is_of_entries, is_of_inodes}
 use Rattle.plain_tree.specs.WellFormed.{IsWellFormed}
 use Rattle.plain_tree.specs.Checks.{first_failure, node_check, file_check, hand_check, open_check}
+use Rattle.plain_tree.specs.Entries.{entry_at}
 use Rattle.plain_tree.specs.Files.{bytes_of, file_at, open_file}
 use Rattle.plain_tree.specs.Operations.{checks, effect, success, attr_reply, new_directory, new_file, make_checks}
+use Rattle.plain_tree.specs.Pages.{attribute_page, directory_page}
 use Rattle.s3_rows.specs.Rows.{Inode}
 use Rattle.s3_rows.specs.Tables.{Tables}
 use Rattle.s3_rows.specs.Selections.{inode_at}
@@ -145,6 +147,12 @@ module _ (t : Tables) (whole : Tree) (v : IsValid t) (same : Represents t whole)
     pub hand : (inode : ℕ) → inode_opened (success whole pass op now) ≡ Some inode → hand_check whole ≡ None
     pub handles : HasHandles (closed_by pass op (opened_by (inode_opened (success whole pass op now)) pass h)) (effect whole pass op now)
 
+  -- a page opens nothing
+  page_opened : (found : Option Node) (page : Node → Reply) (empty : Reply) → ((node : Node) → inode_opened (page node) ≡ None) → inode_opened empty ≡ None
+      → inode_opened (elim found as (λ _. Reply) [ Some node ↦ page node | None ↦ empty ]) ≡ None
+  page_opened None page empty opens is = is
+  page_opened (Some node) page empty opens is = opens node
+
   not_opened : (x : Tree) (inode : ℕ) → inode_opened (attr_reply x inode) ≡ None
   not_opened x inode = by_node (node_at x inode)
     where
@@ -166,6 +174,13 @@ module _ (t : Tables) (whole : Tree) (v : IsValid t) (same : Represents t whole)
       keeps op (ap inode_opened gives ∙ not_opened (effect whole pass op now) of) open_still (subst (HasHandles h) (sym does) (own_handles f inode more h own))
 
   pub fulfils : (op : Op) → IsTrue (is_by_plan op) → first_failure (checks whole pass op) ≡ None → Fulfils op
+  fulfils (ops.Lookup parent name) is passes = keeps (ops.Lookup parent name) (not_opened whole (unwrap_or (entry_at whole parent name) 0)) refl has
+  fulfils (ops.Readlink inode) is passes = keeps (ops.Readlink inode) refl refl has
+  fulfils (ops.Readdir inode after most) is passes =
+      keeps (ops.Readdir inode after most) (page_opened (node_at whole inode) (λ node. replies.Entries (directory_page whole node after most)) (replies.Entries []) (λ node. refl) refl) refl has
+  fulfils (ops.Getxattr inode name) is passes = keeps (ops.Getxattr inode name) refl refl has
+  fulfils (ops.Listxattr inode after most) is passes =
+      keeps (ops.Listxattr inode after most) (page_opened (node_at whole inode) (λ node. replies.Names (attribute_page node after most)) (replies.Names []) (λ node. refl) refl) refl has
   fulfils (ops.Getattr inode) is passes = keeps (ops.Getattr inode) (not_opened whole inode) refl has
   fulfils (ops.Chmod inode mode) is passes = changes (ops.Chmod inode mode) (λ node. stamped now (record node { mode = mode })) inode inode whole has refl refl refl
   fulfils (ops.Chown inode uid gid) is passes = changes (ops.Chown inode uid gid) (λ node. stamped now (record node { uid = uid; gid = gid })) inode inode whole has refl refl refl

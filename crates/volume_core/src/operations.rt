@@ -131,11 +131,16 @@ impl<K: Keeper> RowCore<K> {
             | Op::Chmod { .. }
             | Op::Chown { .. }
             | Op::Utimes { .. }
+            | Op::Readlink { .. }
             | Op::Open { .. }
             | Op::Release { .. }
             | Op::Statfs
+            | Op::Getxattr { .. }
+            | Op::Listxattr { .. }
             | Op::Leave => self.on_inodes(pass, op, now),
-            Op::Mkdir { .. } | Op::Create { .. } => self.on_entries(pass, op, now),
+            Op::Lookup { .. } | Op::Mkdir { .. } | Op::Create { .. } | Op::Readdir { .. } => {
+                self.on_entries(pass, op, now)
+            }
             Op::Truncate { inode, size } => self.truncate(*inode, *size, now),
             Op::Read {
                 handle,

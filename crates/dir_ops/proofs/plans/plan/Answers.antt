@@ -5,6 +5,14 @@ use Rattle.ref_counts.proofs.Named.{if_ok}
 use Rattle.ref_counts.proofs.Told.{IfTold-weaker}
 use Rattle.dir_ops.proofs.plans.plan.Goals as goal
 
+pub returns-in-Lookup-clause-plan : goal.returns-in-Lookup-clause-plan
+returns-in-Lookup-clause-plan g c =
+    if_ok _ _ (λ p own.
+    IfTold-weaker (g.K.Keeper.told c.args.keeper.now) _ _
+    (λ t planned v unique whole same well has. subst (λ (op : Op). IsPlanOf t whole c.args.pass op c.args.now p) (sym c.in-Lookup.is) (planned v unique whole c.args.pass c.args.now same))
+    own)
+    c.plan_lookup.result c.plan_lookup.ensures.plan
+
 pub returns-in-Create-clause-plan : goal.returns-in-Create-clause-plan
 returns-in-Create-clause-plan g c =
     if_ok _ _ (λ p own.
@@ -20,3 +28,10 @@ returns-in-Mkdir-clause-plan g c =
     (λ t planned v unique whole same well has. subst (λ (op : Op). IsPlanOf t whole c.args.pass op c.args.now p) (sym c.in-Mkdir.is) (planned v unique whole c.args.pass same well))
     own)
     c.plan_mkdir.result c.plan_mkdir.ensures.plan
+pub returns-in-Readdir-clause-plan : goal.returns-in-Readdir-clause-plan
+returns-in-Readdir-clause-plan g c =
+    if_ok _ _ (λ p own.
+    IfTold-weaker (g.K.Keeper.told c.args.keeper.now) _ _
+    (λ t planned v unique whole same well has. subst (λ (op : Op). IsPlanOf t whole c.args.pass op c.args.now p) (sym c.in-Readdir.is) (planned v whole c.args.pass c.args.now same))
+    own)
+    c.plan_readdir.result c.plan_readdir.ensures.plan

@@ -1,5 +1,7 @@
-use Rattle.std.proofs.Common.{sym, subst}
+use Rattle.std.proofs.Common.{◌≡◌, refl, sym, subst, IsTrue}
 use Rattle.op_frames.specs.declared.operation.Op.{Op}
+use Rattle.op_frames.specs.declared.operation.Op.TheVariants as ops
+use Rattle.plain_tree.specs.Built.{is_built}
 use Rattle.volume_core.specs.Refusals.{IsOutcome}
 use Rattle.volume_core.proofs.Effects.{short_write}
 use Rattle.volume_core.proofs.row_core.RowCore.carry_out.Goals as goal
@@ -14,3 +16,27 @@ returns-in-Truncate-clause-built g c built whole s =
 pub returns-in-Read-clause-built : goal.returns-in-Read-clause-built
 returns-in-Read-clause-built g c built whole s =
     subst (λ (op : Op). IsOutcome g.K.Keeper.told c.args.self.now c.read.new.self whole c.args.pass op c.args.now c.read.result) (sym c.in-Read.is) (c.read.ensures.outcome whole c.args.now s)
+
+-- every operation that is built has an arm
+pub returns-in_default-clause-built : goal.returns-in_default-clause-built
+returns-in_default-clause-built g c built whole s = absurd (has_arm c.args.op.now refl built)
+  where
+    has_arm : (op : Op) → c.args.op.now ≡ op → IsTrue (is_built op) → ⊥
+    has_arm (ops.Lookup parent name) is own = c.in_default.not-Lookup parent name is
+    has_arm (ops.Getattr inode) is own = c.in_default.not-Getattr inode is
+    has_arm (ops.Chmod inode mode) is own = c.in_default.not-Chmod inode mode is
+    has_arm (ops.Chown inode uid gid) is own = c.in_default.not-Chown inode uid gid is
+    has_arm (ops.Utimes inode mtime) is own = c.in_default.not-Utimes inode mtime is
+    has_arm (ops.Truncate inode size) is own = c.in_default.not-Truncate inode size is
+    has_arm (ops.Create parent name mode uid gid) is own = c.in_default.not-Create parent name mode uid gid is
+    has_arm (ops.Readlink inode) is own = c.in_default.not-Readlink inode is
+    has_arm (ops.Open inode) is own = c.in_default.not-Open inode is
+    has_arm (ops.Release handle) is own = c.in_default.not-Release handle is
+    has_arm (ops.Read handle offset count) is own = c.in_default.not-Read handle offset count is
+    has_arm (ops.Write handle offset bytes) is own = c.in_default.not-Write handle offset bytes is
+    has_arm (ops.Readdir inode after most) is own = c.in_default.not-Readdir inode after most is
+    has_arm ops.Statfs is own = c.in_default.not-Statfs is
+    has_arm (ops.Getxattr inode name) is own = c.in_default.not-Getxattr inode name is
+    has_arm (ops.Listxattr inode after most) is own = c.in_default.not-Listxattr inode after most is
+    has_arm ops.Leave is own = c.in_default.not-Leave is
+    has_arm _ is own = cc own
