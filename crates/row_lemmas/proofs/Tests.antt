@@ -4,9 +4,11 @@ use Rattle.std.specs.Prelude.{IsTrue, not, ◌&&◌, ◌||◌, ◌==◌, nat_lt,
 use Rattle.std.specs.List.{list_all, list_any, filter_map, cons_option}
 use Rattle.std.specs.declared.cmp.Ordering.{Ordering}
 use Rattle.std.specs.declared.cmp.Ordering.TheVariants.{Less, Equal, Greater}
-use Rattle.std.specs.Ordering.{nat_cmp, is_lt, is_eq, is_gt}
+use Rattle.std.specs.FinMap.{nat_cmp-IsAntisymmetric}
+use Rattle.std.specs.Ordering.{nat_cmp, is_lt, is_eq, is_gt, ordering_then}
 use Rattle.std.proofs.lemmas.Bool.{and_parts, and_from}
 use Rattle.std.proofs.lemmas.Bool.Decides.{nat_tests}
+use Rattle.s3_rows.specs.Keyed.{pair_cmp}
 use Rattle.s3_rows.specs.Validity.{differ}
 
 -- ---- answers
@@ -47,6 +49,16 @@ is_eq-nat_cmp a b = by_case (nat_lt a b) refl (a == b) refl
     by_case true less false equal = refl
     by_case false less true equal = refl
     by_case false less false equal = refl
+
+pub pair_parts : (x y : ℕ × ℕ) → IsTrue (is_eq (pair_cmp x y)) → (x.0 ≡ y.0) × (x.1 ≡ y.1)
+pair_parts x y is = by_case (nat_cmp x.0 y.0) refl is
+  where
+    by_case : (c : Ordering) → nat_cmp x.0 y.0 ≡ c → IsTrue (is_eq (ordering_then c (nat_cmp x.1 y.1)))
+        → (x.0 ≡ y.0) × (x.1 ≡ y.1)
+    by_case Less one two = absurd (cc two)
+    by_case Equal one two =
+        (nat_cmp-IsAntisymmetric x.0 y.0 one, nat_cmp-IsAntisymmetric x.1 y.1 (equal_from_is_eq (nat_cmp x.1 y.1) two))
+    by_case Greater one two = absurd (cc two)
 
 -- ---- list_all
 

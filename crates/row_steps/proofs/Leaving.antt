@@ -17,7 +17,7 @@ use Rattle.s3_rows.specs.Batches.{tables_after}
 use Rattle.s3_rows.specs.Selections.{inode_at, name_at, bytes_cmp, bytes_of_name, name_of_bytes}
 use Rattle.s3_rows.specs.Selections as selections
 use Rattle.s3_rows.specs.Validity.{IsValid, HasUniqueNames}
-use Rattle.row_lemmas.proofs.Tests.{equal_from_is_eq, find_passes, find_passes_all, is_eq-nat_cmp, list_any_from_find}
+use Rattle.row_lemmas.proofs.Tests.{equal_from_is_eq, find_passes, find_passes_all, is_eq-nat_cmp, list_any_from_find, pair_parts}
 use Rattle.row_lemmas.proofs.Keyed.Put.{list_all-put, row_at-put_other}
 use Rattle.row_lemmas.proofs.Keyed.Rest.{length-without}
 use Rattle.row_lemmas.proofs.Keyed.RowAt.{row_at_from_find}
@@ -32,7 +32,6 @@ use Rattle.row_steps.specs.Owed.{IsBare, Owes, times}
 use Rattle.row_steps.specs.RowChanges.{dropping, touched_row}
 use Rattle.row_steps.proofs.Dropping.{HasUniqueNames-dropping, Owes-dropping, Represents-dropping, lower}
 use Rattle.row_steps.proofs.Less.{IsLess, IsStep-less}
-use Rattle.row_steps.proofs.Owed.Contents.{pair_parts}
 use Rattle.row_steps.proofs.Owed.Ends.{Owes-IsValid}
 use Rattle.row_steps.proofs.Owed.Inodes.{times_other}
 use Rattle.row_steps.proofs.Removing.{HasUniqueNames-removal, Owes-removal, Represents-removal, attrs-removal, gone, tables_after-removal}

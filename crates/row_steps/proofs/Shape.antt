@@ -1,5 +1,6 @@
 -- What each change of rows makes of the tree that tables represent.
 pub mod Absent
+pub mod Attributes
 pub mod Deletes
 pub mod Entries
 pub mod Names

@@ -95,3 +95,15 @@ other_name n more = record { id = more.id; changes = lowered n ++ more.changes }
 -- or only that, since the entry that is replaced has the new name
 abbrev pub name_of_replaced : Name → Content → Raised
 name_of_replaced n replaced = record { id = replaced.name_id; changes = lowered n }
+
+-- an attribute of an inode is put, and the inode stamped
+abbrev pub setting_attr : Inode → ℕ → List ℕ → ℕ → List Change
+setting_attr r name_id value now = changes.PutAttr (record { inode = r.id; name_id = name_id; value = value }) ∷ changes.PutInode (stamped_row now r) ∷ []
+
+-- a new one: its name is used once more first
+abbrev pub adding_attr : Inode → Raised → List ℕ → ℕ → List Change
+adding_attr r more value now = more.changes ++ setting_attr r more.id value now
+
+-- one that is removed is deleted, its inode stamped, and its name used once less
+abbrev pub removing_attr : Inode → Attr → Name → ℕ → List Change
+removing_attr r a n now = changes.DeleteAttr a.inode a.name_id ∷ changes.PutInode (stamped_row now r) ∷ lowered n

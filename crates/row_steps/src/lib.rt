@@ -24,5 +24,6 @@ pub use steps::{
     old_files_are_steps, old_links_are_steps, tables_after_operations_are_valid,
 };
 pub use trees::{
-    entries_are_entries, name_rows_leave_the_tree, rows_are_nodes, rows_of_no_node_leave_the_tree,
+    attributes_are_attributes, entries_are_entries, name_rows_leave_the_tree, rows_are_nodes,
+    rows_of_no_node_leave_the_tree,
 };

@@ -1,16 +1,18 @@
 ghost use Rattle.std.specs.Prelude.{◌≡◌, ℕ, List, ◌∷◌, false, is_some, IsTrue, None, Some};
 ghost use Rattle.s3_base.specs.declared.node_kind.Kind.TheVariants as kinds;
-ghost use Rattle.plain_tree.specs.Tree.{Node, Tree, change_node, with_node, without_node};
+ghost use Rattle.plain_tree.specs.Tree.{Node, Tree, change_node, stamped, with_node, without_node};
 ghost use Rattle.plain_tree.specs.Entries.{add_entry, drop_entry};
+ghost use Rattle.plain_tree.specs.Pages.{with_attribute, without_attribute};
 ghost use Rattle.s3_rows.specs.declared.change.Change.TheVariants as changes;
-ghost use Rattle.s3_rows.specs.Rows.{Inode, Name, Content, Target, Parameters};
+ghost use Rattle.s3_rows.specs.Rows.{Inode, Name, Content, Target, Attr, Parameters};
 ghost use Rattle.s3_rows.specs.Tables.{Tables};
 ghost use Rattle.s3_rows.specs.Batches.{after_change, tables_after};
-ghost use Rattle.s3_rows.specs.Selections.{inode_at, name_at, entry_at, bytes_of_name};
+ghost use Rattle.s3_rows.specs.Selections.{inode_at, name_at, entry_at, attr_at, bytes_of_name};
+ghost use Rattle.s3_rows.specs.Validity.{HasUniqueNames};
 ghost use Rattle.tree_rows.specs.Shapes.{shape_of_node, node_of_row, Represents};
 ghost use Rattle.ref_counts.specs.Names.{lowered};
 ghost use Rattle.row_steps.specs.Owed.{Owes, has_entry};
-ghost use Rattle.row_steps.specs.RowChanges.{drawn, touched_row};
+ghost use Rattle.row_steps.specs.RowChanges.{drawn, stamped_row, touched_row};
 
 /// A row under the number that is drawn is a node more; a row that is deleted, one less; and a row in place of another is the
 /// node that a change makes of its shape.
@@ -55,4 +57,18 @@ pub fn rows_of_no_node_leave_the_tree()
         → Represents (after_change (changes.DeleteTarget id) t) whole }
     ensures new_targets { (t : Tables) (whole : Tree) (r : Target) → inode_at t r.inode ≡ None → Represents t whole
         → Represents (after_change (changes.PutTarget r) t) whole }
+{}
+
+/// An attribute that is put, whether its inode has one of the name or not, is one of the node, and one that is deleted none, where
+/// the inode is stamped and no two names have the same bytes.
+pub fn attributes_are_attributes()
+    ensures put { (t : Tables) (whole : Tree) (p : Parameters) (r : Inode) (a : Attr) (n : Name) (now : ℕ) (links uses : List ℕ) → Owes t p links uses
+        → Represents t whole → HasUniqueNames t → r.id ≡ a.inode → inode_at t r.id ≡ Some r → name_at t a.name_id ≡ Some n
+        → Represents (after_change (changes.PutInode (stamped_row now r)) (after_change (changes.PutAttr a) t))
+        (change_node r.id (λ node. stamped now (with_attribute n.name a.value node)) whole) }
+    ensures delete { (t : Tables) (whole : Tree) (p : Parameters) (r : Inode) (a : Attr) (n : Name) (now : ℕ) (links uses : List ℕ) → Owes t p links uses
+        → Represents t whole → HasUniqueNames t → r.id ≡ a.inode → inode_at t r.id ≡ Some r → name_at t a.name_id ≡ Some n
+        → attr_at t a.inode a.name_id ≡ Some a
+        → Represents (after_change (changes.PutInode (stamped_row now r)) (after_change (changes.DeleteAttr a.inode a.name_id) t))
+        (change_node r.id (λ node. stamped now (without_attribute n.name node)) whole) }
 {}

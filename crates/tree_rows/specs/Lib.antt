@@ -1,5 +1,6 @@
 pub mod Attrs
 pub mod Contents
 pub mod Listings
+pub mod NamedAttrs
 pub mod Premises
 pub mod Shapes

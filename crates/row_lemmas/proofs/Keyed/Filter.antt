@@ -1,10 +1,10 @@
 -- Filters of rows by key.
 use Rattle.std.proofs.Common.{◌≡◌, List, [], ◌∷◌, Bool, true, false, cond, Option, None, Some, refl, sym, ap, ◌∙◌}
-use Rattle.std.specs.Prelude.{IsTrue, filter}
+use Rattle.std.specs.Prelude.{IsTrue, filter, not}
 use Rattle.std.specs.Cmp.{IsTotalOrder}
 use Rattle.std.specs.declared.cmp.Ordering.{Ordering}
 use Rattle.std.specs.declared.cmp.Ordering.TheVariants.{Less, Equal, Greater}
-use Rattle.s3_rows.specs.Keyed.{Order, has_key, rises, put, row_at}
+use Rattle.s3_rows.specs.Keyed.{Order, has_key, rises, put, row_at, without}
 use Rattle.row_lemmas.proofs.Tests.{equal_from_is_eq}
 use Rattle.row_lemmas.proofs.Keyed.Rises.{rises_tail, rises-filter}
 use Rattle.row_lemmas.proofs.Keyed.RowAt.{row_at_behind, same_from_row_at}
@@ -31,6 +31,17 @@ module _ {K R : Type 0} (o : Order K R) where
           ap (λ b. cond b (r ∷ filter q xs) (filter q xs)) out
           ∙ sym (ap (λ b. cond b (x ∷ filter q xs) (filter q xs)) (all_out x is))
       by_case others Greater is = ap (λ ys. cond (q x) (x ∷ ys) ys) others
+
+  -- a delete of rows that a filter leaves out
+  pub filter-without_false : (q : R → Bool) (k : K) (rows : List R) → ((x : R) → IsTrue (has_key o k x) → q x ≡ false)
+      → filter q (without o k rows) ≡ filter q rows
+  filter-without_false q k [] out = refl
+  filter-without_false q k (x ∷ xs) out = by_case (filter-without_false q k xs out) (has_key o k x) refl
+    where
+      by_case : filter q (without o k xs) ≡ filter q xs → (b : Bool) → has_key o k x ≡ b
+          → filter q (cond (not b) (x ∷ without o k xs) (without o k xs)) ≡ filter q (x ∷ xs)
+      by_case others true is = others ∙ sym (ap (λ b. cond b (x ∷ filter q xs) (filter q xs)) (out x is))
+      by_case others false is = ap (λ ys. cond (q x) (x ∷ ys) ys) others
 
   module _ (total : IsTotalOrder o.compare) where
     pub row_at-filter : (q : R → Bool) (k : K) (rows : List R) → IsTrue (rises o rows)

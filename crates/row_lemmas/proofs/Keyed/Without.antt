@@ -1,15 +1,19 @@
 -- What a delete makes of rows.
-use Rattle.std.proofs.Common.{◌≡◌, List, [], ◌∷◌, Bool, true, false, cond, Option, None, Some, refl, sym, ap, ◌∙◌}
+use Rattle.std.proofs.Common.{◌≡◌, List, [], ◌∷◌, map, Bool, true, false, cond, Option, None, Some, refl, sym, ap, ◌∙◌, subst}
 use Rattle.std.specs.Prelude.{IsTrue, not, is_some}
-use Rattle.std.specs.List.{list_all}
+use Rattle.std.specs.List.{list_all, list_any}
+use Rattle.std.specs.Map.{remove_entry}
+use Rattle.std.specs.BTreeMap.{is_at}
+use Rattle.std.proofs.lemmas.Bool.{and_from, and_parts}
 use Rattle.std.specs.Cmp.{IsTotalOrder, tied_itself, tied_back}
 use Rattle.std.specs.declared.cmp.Ordering.{Ordering}
 use Rattle.std.specs.declared.cmp.Ordering.TheVariants.{Less, Equal, Greater}
 use Rattle.std.specs.Ordering.{is_eq, ordering_reverse}
 use Rattle.s3_rows.specs.Keyed.{Order, has_key, rises, put, without, row_at}
-use Rattle.row_lemmas.proofs.Tests.{equal_from_is_eq, list_all-filter, filter-filter_same}
-use Rattle.row_lemmas.proofs.Keyed.Rises.{rises-without}
-use Rattle.row_lemmas.proofs.Keyed.RowAt.{row_at_tied, same_from_row_at}
+use Rattle.s3_rows.specs.Validity.{differ}
+use Rattle.row_lemmas.proofs.Tests.{equal_from_is_eq, list_all-filter, list_all_from_list_any, list_any_from_find, filter-filter_same}
+use Rattle.row_lemmas.proofs.Keyed.Rises.{rises_tail, rises-without}
+use Rattle.row_lemmas.proofs.Keyed.RowAt.{row_at_behind, row_at_tied, same_from_row_at}
 use Rattle.row_lemmas.proofs.Keyed.Put.{rises-put, row_at-put}
 
 module _ {K R : Type 0} (o : Order K R) where
@@ -31,7 +35,60 @@ module _ {K R : Type 0} (o : Order K R) where
       by_case others true none = absurd (cc none)
       by_case others false none = ap (λ xs. r ∷ xs) (others none)
 
+  -- of rows that differ, those of other keys are unlike the one of a key
+  pub list_all-without_unlike : (alike : R → R → Bool) → ((a b : R) → alike a b ≡ alike b a) → (k : K) (c : R)
+      (rows : List R) → IsTrue (differ alike rows) → row_at o k rows ≡ Some c
+      → IsTrue (list_all (λ x. not (alike c x)) (without o k rows))
+  list_all-without_unlike alike turned k c [] unlike there = refl
+  list_all-without_unlike alike turned k c (x ∷ xs) unlike there =
+      by_case (list_all-without_unlike alike turned k c xs parts.1) (has_key o k x) there
+    where
+      parts : IsTrue (not (list_any (alike x) xs)) × IsTrue (differ alike xs)
+      parts = and_parts (not (list_any (alike x) xs)) (differ alike xs) unlike
+
+      first : row_at o k xs ≡ Some c → (b : Bool) → alike c x ≡ b → IsTrue (not b)
+      first found true is =
+          let any : IsTrue (list_any (alike x) xs) =
+          list_any_from_find (has_key o k) (alike x) xs c found (turned x c ∙ is) in
+          let clash : false ≡ true = sym (ap not any) ∙ parts.0 in
+          absurd (cc clash)
+      first found false is = refl
+
+      by_case : (row_at o k xs ≡ Some c → IsTrue (list_all (λ y. not (alike c y)) (without o k xs))) → (b : Bool)
+          → cond b (Some x) (row_at o k xs) ≡ Some c
+          → IsTrue (list_all (λ y. not (alike c y)) (cond (not b) (x ∷ without o k xs) (without o k xs)))
+      by_case others true found =
+          let same : x ≡ c = cc found in
+          subst (λ y. IsTrue (list_all (λ z. not (alike y z)) (without o k xs))) same
+          (list_all-filter (λ r. not (has_key o k r)) (λ z. not (alike x z)) xs
+          (list_all_from_list_any (alike x) xs parts.0))
+      by_case others false found =
+          and_from (not (alike c x)) (list_all (λ y. not (alike c y)) (without o k xs)) (first found (alike c x) refl)
+          (others found)
+
   module _ (total : IsTotalOrder o.compare) where
+    -- ---- entries by key
+
+    -- a delete removes what is told of the row of its key
+    pub map-without_entry : {X : Type 0} (f : R → X) (k : K) (rows : List R) → IsTrue (rises o rows)
+        → map (λ x. (o.key x, f x)) (without o k rows)
+        ≡ remove_entry (is_at (o.compare k)) (map (λ x. (o.key x, f x)) rows)
+    map-without_entry f k [] up = refl
+    map-without_entry {X} f k (x ∷ xs) up =
+        by_case (map-without_entry f k xs (rises_tail o x xs up)) (has_key o k x) refl
+      where
+        told : R → K × X
+        told y = (o.key y, f y)
+
+        by_case : map told (without o k xs) ≡ remove_entry (is_at (o.compare k)) (map told xs) → (b : Bool)
+            → has_key o k x ≡ b
+            → map told (cond (not b) (x ∷ without o k xs) (without o k xs))
+            ≡ cond b (map told xs) (told x ∷ remove_entry (is_at (o.compare k)) (map told xs))
+        by_case others true is =
+            ap (map told) (without_none k xs
+            (ap is_some (row_at_behind o total k x xs up (equal_from_is_eq (o.compare k (o.key x)) is))))
+        by_case others false is = ap (λ es. told x ∷ es) others
+
     -- ---- row_at
 
     pub row_at-without : (j k : K) (rows : List R)

@@ -13,7 +13,7 @@ use Rattle.s3_rows.specs.Tables.{Tables, by_attr, by_inode, by_target}
 use Rattle.s3_rows.specs.Selections.{inode_at, attr_at, target_at}
 use Rattle.s3_rows.specs.Counts.{listed_name_count}
 use Rattle.s3_rows.specs.Validity.{finds_of_attr, has_inode, is_link}
-use Rattle.row_lemmas.proofs.Tests.{find_passes, list_all_weaker}
+use Rattle.row_lemmas.proofs.Tests.{find_passes, list_all_weaker, pair_parts}
 use Rattle.row_lemmas.proofs.Keyed.Rises.{rises-without}
 use Rattle.row_lemmas.proofs.Keyed.RowAt.{list_all_from_row_at, row_at_passes}
 use Rattle.row_lemmas.proofs.Keyed.Put.{rises-put, list_all-put, row_at-put}
@@ -22,7 +22,6 @@ use Rattle.row_lemmas.proofs.Keyed.Count.{count_by-put_new, count_by-put_there, 
 use Rattle.row_lemmas.proofs.Tables.{pair_cmp_total}
 use Rattle.tree_rows.specs.Premises.{fits_kind, fits_size}
 use Rattle.row_steps.specs.Owed.{Owes, owes_uses, times}
-use Rattle.row_steps.proofs.Owed.Contents.{pair_parts}
 use Rattle.row_steps.proofs.Owed.Inodes.{one_number}
 
 -- ---- attributes

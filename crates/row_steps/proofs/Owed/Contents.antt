@@ -5,19 +5,18 @@ use Rattle.std.specs.List.{list_all, list_any}
 use Rattle.std.proofs.lemmas.List.Sums.{sum_by-cons}
 use Rattle.std.specs.Cmp.{tied_itself}
 use Rattle.std.proofs.lemmas.Cmp.{nat_list_cmp_total}
-use Rattle.std.specs.FinMap.{nat_cmp-IsAntisymmetric}
 use Rattle.std.specs.declared.cmp.Ordering.{Ordering}
 use Rattle.std.specs.declared.cmp.Ordering.TheVariants.{Less, Equal, Greater}
-use Rattle.std.specs.Ordering.{nat_cmp, is_eq, ordering_reverse, ordering_then}
+use Rattle.std.specs.Ordering.{is_eq, ordering_reverse}
 use Rattle.std.proofs.lemmas.Bool.{and_from, and_parts}
 use Rattle.s3_base.specs.Numbers.{root}
 use Rattle.s3_rows.specs.Rows.{Content, Parameters}
-use Rattle.s3_rows.specs.Keyed.{has_key, pair_cmp, rises, put, without}
+use Rattle.s3_rows.specs.Keyed.{has_key, rises, put, without}
 use Rattle.s3_rows.specs.Tables.{Tables, by_entry}
 use Rattle.s3_rows.specs.Selections.{bytes_cmp, bytes_of_name, entry_at}
 use Rattle.s3_rows.specs.Counts.{listed_inode_count, listed_name_count}
 use Rattle.s3_rows.specs.Validity.{differ, have_one_name}
-use Rattle.row_lemmas.proofs.Tests.{eqb_comm, equal_from_is_eq, is_some-find_none, list_all-filter, list_all_from_list_any, list_all_weaker, list_any_from_list_all}
+use Rattle.row_lemmas.proofs.Tests.{is_some-find_none, eqb_comm, list_all-filter, list_all_from_list_any, list_all_weaker, list_any_from_list_all, pair_parts}
 use Rattle.row_lemmas.proofs.Keyed.Rises.{rises-without}
 use Rattle.row_lemmas.proofs.Keyed.Put.{rises-put, list_all-put, differ-put}
 use Rattle.row_lemmas.proofs.Keyed.Without.{list_all-without}
@@ -96,14 +95,6 @@ bytes_turned a b = ap is_eq (nat_list_cmp_total.antisymm a b) ∙ turned (bytes_
     turned Greater = refl
 
 -- the parts of equal pairs
-pub pair_parts : (x y : ℕ × ℕ) → IsTrue (is_eq (pair_cmp x y)) → (x.0 ≡ y.0) × (x.1 ≡ y.1)
-pair_parts x y is = by_case (nat_cmp x.0 y.0) refl is
-  where
-    by_case : (c : Ordering) → nat_cmp x.0 y.0 ≡ c → IsTrue (is_eq (ordering_then c (nat_cmp x.1 y.1))) → (x.0 ≡ y.0) × (x.1 ≡ y.1)
-    by_case Less one two = absurd (cc two)
-    by_case Equal one two = (nat_cmp-IsAntisymmetric x.0 y.0 one, nat_cmp-IsAntisymmetric x.1 y.1 (equal_from_is_eq (nat_cmp x.1 y.1) two))
-    by_case Greater one two = absurd (cc two)
-
 -- ---- a put
 
 module _ (t : Tables) (c : Content) (free : list_any (is_entry t c.parent (bytes_of_name t c.name_id)) t.contents ≡ false) where

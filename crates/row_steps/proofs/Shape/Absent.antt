@@ -6,17 +6,15 @@ use Rattle.std.specs.Cmp.{nat_cmp_total}
 use Rattle.std.proofs.lemmas.Bool.{and_parts}
 use Rattle.s3_base.specs.declared.node_kind.Kind.TheVariants as kinds
 use Rattle.plain_tree.specs.Tree.{Tree, without_node}
-use Rattle.s3_rows.specs.declared.lists.NamedAttr.{NamedAttr}
-use Rattle.s3_rows.specs.Rows.{Inode, Target, Attr, Parameters}
-use Rattle.s3_rows.specs.Keyed.{has_key, put, rises, row_at, sorted_by, without}
+use Rattle.s3_rows.specs.Rows.{Inode, Target, Parameters}
+use Rattle.s3_rows.specs.Keyed.{has_key, put, rises, row_at, without}
 use Rattle.s3_rows.specs.Tables.{Tables, by_attr, by_inode, by_target}
-use Rattle.s3_rows.specs.Selections.{inode_at, target_at, with_attr_name, by_attr_name}
-use Rattle.row_lemmas.proofs.Filters.{filter-filter_weaker}
+use Rattle.s3_rows.specs.Selections.{inode_at, target_at}
 use Rattle.row_lemmas.proofs.Tests.{eqb_comm, false_from_not, is_eq-nat_cmp, list_all_from_find, list_all_weaker}
 use Rattle.row_lemmas.proofs.Keyed.Put.{row_at-put_other}
 use Rattle.row_lemmas.proofs.Keyed.Without.{row_at-without_other, row_at-without_same}
-use Rattle.tree_rows.specs.Shapes.{Directory, Regular, Link, NodeShape, attributes_in, content_of_row, entries_in, node_of_row, shape_of_tables, target_in, Represents}
-use Rattle.row_steps.proofs.Owed.Contents.{pair_parts}
+use Rattle.tree_rows.specs.Shapes.{Directory, Regular, Link, NodeShape, content_of_row, entries_in, node_of_row, shape_of_tables, target_in, Represents}
+use Rattle.row_steps.proofs.Shape.Attributes.{attributes_in-without_other}
 use Rattle.row_steps.proofs.Shape.Deletes.{Represents-without_inode}
 use Rattle.row_steps.proofs.Shape.Rows.{row_shape}
 
@@ -36,22 +34,7 @@ no_row t id none =
 -- an attribute of another inode
 pub node_of_row-without_attr_other : (t : Tables) (id name_id : ℕ) (x : Inode) → (x.id == id) ≡ false
     → node_of_row (record t { attrs = without by_attr (id, name_id) t.attrs }) x ≡ node_of_row t x
-node_of_row-without_attr_other t id name_id x apart = λ i. record (node_of_row t x) { attributes = attributes i }
-  where
-    other : (r : Attr) → (r.inode == x.id) ≡ true → not (has_key by_attr (id, name_id) r) ≡ true
-    other r here = by_case (has_key by_attr (id, name_id) r) refl
-      where
-        by_case : (b : Bool) → has_key by_attr (id, name_id) r ≡ b → not b ≡ true
-        by_case true is =
-            let clash : true ≡ false =
-            sym here ∙ eqb_comm r.inode x.id ∙ ap (λ n. x.id == n) (sym (pair_parts (id, name_id) (r.inode, r.name_id) is).0) ∙ apart in
-            absurd (cc clash)
-        by_case false is = refl
-
-    attributes : attributes_in (record t { attrs = without by_attr (id, name_id) t.attrs }) x.id ≡ attributes_in t x.id
-    attributes =
-        ap (λ (rows : List Attr). map (λ (a : NamedAttr). (a.name, a.row.value)) (sorted_by by_attr_name (filter_map (with_attr_name t) rows)))
-        (filter-filter_weaker (λ r. not (has_key by_attr (id, name_id) r)) (λ (r : Attr). r.inode == x.id) other t.attrs)
+node_of_row-without_attr_other t id name_id x apart = λ i. record (node_of_row t x) { attributes = attributes_in-without_other t id name_id x.id (eqb_comm id x.id ∙ apart) i }
 
 pub Represents-without_attr_absent : (t : Tables) (whole : Tree) (id name_id : ℕ) → inode_at t id ≡ None → Represents t whole
     → Represents (record t { attrs = without by_attr (id, name_id) t.attrs }) whole

@@ -18,7 +18,7 @@ use Rattle.s3_rows.specs.Rows.{Inode, Name, Content}
 use Rattle.s3_rows.specs.Keyed.{rises, put, sorted_by}
 use Rattle.s3_rows.specs.Tables.{Tables, by_entry, by_inode}
 use Rattle.s3_rows.specs.Selections.{inode_at, name_at, bytes_of_name, bytes_cmp, with_entry_name, named_entries, by_entry_name}
-use Rattle.row_lemmas.proofs.Tests.{false_from_not, is_eq-nat_cmp, list_all_from_list_any}
+use Rattle.row_lemmas.proofs.Tests.{false_from_not, is_eq-nat_cmp, list_all_from_list_any, pair_parts}
 use Rattle.row_lemmas.proofs.Keyed.Put.{map-put_entry}
 use Rattle.row_lemmas.proofs.Keyed.Filter.{filter-put_false}
 use Rattle.row_lemmas.proofs.Keyed.Sorted.{sorted_by-put, IsApart}
@@ -26,7 +26,6 @@ use Rattle.tree_rows.specs.Shapes.{Regular, Directory, Link, NodeShape, shape_of
 use Rattle.tree_rows.proofs.Listed.{is_entry, is_in}
 use Rattle.tree_rows.proofs.Whole.{content_of_kind}
 use Rattle.row_steps.specs.RowChanges.{touched_row}
-use Rattle.row_steps.proofs.Owed.Contents.{pair_parts}
 use Rattle.row_steps.proofs.Shape.Rows.{changed_represents}
 
 -- the bytes of a row with its name
@@ -37,7 +36,7 @@ bytes_found c (Some n) y is =
     let same : record { row = c; name = n.name } ≡ y = cc is in
     ap (λ (e : NamedEntry). e.name) same
 
-found_bytes : (c : Content) (found : Option Name) → IsTrue (is_some found)
+pub found_bytes : (c : Content) (found : Option Name) → IsTrue (is_some found)
     → option_map (λ (n : Name). let e : NamedEntry = record { row = c; name = n.name } in e) found ≡ Some (record { row = c; name = unwrap_or (option_map (λ (n : Name). n.name) found) [] })
 found_bytes c None is = absurd (cc is)
 found_bytes c (Some n) is = refl
@@ -66,10 +65,10 @@ module _ (t : Tables) (c : Content) where
       (λ x alike. ap (λ n. n == id) (sym (pair_parts (c.parent, c.name_id) (x.parent, x.name_id) (ap is_eq alike)).0) ∙ other))
 
   module _ (there : IsTrue (is_some (name_at t c.name_id))) (free : list_any (is_entry t c.parent bytes) t.contents ≡ false) where
-    abbrev listed : NamedEntry
+    abbrev pub listed : NamedEntry
     listed = record { row = c; name = bytes }
 
-    abbrev is_other : Content → Bool
+    abbrev pub is_other : Content → Bool
     is_other x = not (is_entry t c.parent bytes x)
 
     not_named : (x : Content) → IsTrue (is_other x) → x.parent ≡ c.parent → bytes_of_name t x.name_id ≡ bytes → ⊥
@@ -80,7 +79,7 @@ module _ (t : Tables) (c : Content) where
         let clash : false ≡ true = sym (false_from_not (is_entry t c.parent bytes x) passes) ∙ own in
         cc clash
 
-    apart : (x : Content) → IsTrue (is_other x) → IsApart by_entry by_entry_name nat_list_cmp_total (with_entry_name t) (is_in c.parent) is_other c listed x
+    pub apart : (x : Content) → IsTrue (is_other x) → IsApart by_entry by_entry_name nat_list_cmp_total (with_entry_name t) (is_in c.parent) is_other c listed x
     apart x passes = (
       λ alike.
           let parts = pair_parts (c.parent, c.name_id) (x.parent, x.name_id) (ap is_eq alike) in
