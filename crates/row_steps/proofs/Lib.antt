@@ -1,3 +1,4 @@
+pub mod Attributes
 pub mod Dropping
 pub mod Entering
 pub mod Leaving

@@ -1,6 +1,7 @@
 ghost use Rattle.std.specs.Prelude.{◌≡◌, ◌++◌, ◌==◌, ◌||◌, ℕ, List, [], Bool, not, nat_lt, IsTrue, None, Some};
 ghost use Rattle.op_frames.specs.declared.operation.Op.{Op};
 ghost use Rattle.op_frames.specs.declared.operation.Op.TheVariants as ops;
+ghost use Rattle.op_frames.specs.declared.operation.SetFlag.{SetFlag};
 ghost use Rattle.std.specs.List.{list_all};
 ghost use Rattle.s3_base.specs.declared.node_kind.Kind.TheVariants as kinds;
 ghost use Rattle.plain_tree.specs.Tree.{Handle, Tree, handle_of, without_handle};
@@ -9,17 +10,18 @@ ghost use Rattle.plain_tree.specs.Entries.{is_open};
 ghost use Rattle.plain_tree.specs.Checks.{first_failure};
 ghost use Rattle.plain_tree.specs.Operations.{checks, effect};
 ghost use Rattle.plain_tree.specs.WellFormed.{IsWellFormed};
-ghost use Rattle.s3_rows.specs.Rows.{Content, Inode, Name, Parameters};
+ghost use Rattle.s3_rows.specs.Rows.{Attr, Content, Inode, Name, Parameters};
 ghost use Rattle.s3_rows.specs.Tables.{Tables};
 ghost use Rattle.s3_rows.specs.Batches.{tables_after};
-ghost use Rattle.s3_rows.specs.Selections.{entry_at, inode_at, name_of_bytes};
+ghost use Rattle.s3_rows.specs.Selections.{entry_at, inode_at, name_at, name_of_bytes};
 ghost use Rattle.s3_rows.specs.Validity.{IsValid, HasUniqueNames};
+ghost use Rattle.tree_rows.specs.NamedAttrs.{attr_of_name};
 ghost use Rattle.tree_rows.specs.Shapes.{Represents};
 ghost use Rattle.ref_counts.specs.Names.{Raised, raised};
 ghost use Rattle.ref_counts.specs.Plans.{AreNamed, IsStep};
 ghost use Rattle.ref_counts.specs.Removals.{removal};
 ghost use Rattle.row_steps.specs.Owed.{Owes};
-ghost use Rattle.row_steps.specs.RowChanges.{creation, dropping, new_directory_row, new_file_row, settling, unlinking, with_drawn};
+ghost use Rattle.row_steps.specs.RowChanges.{adding_attr, creation, dropping, new_directory_row, new_file_row, removing_attr, setting_attr, settling, unlinking, with_drawn};
 
 /// Where no check of an operation on a well-formed tree fails, tables that owe nothing and represent the tree after it are valid.
 pub fn tables_after_operations_are_valid()
@@ -83,4 +85,25 @@ pub fn old_files_are_steps()
         → is_open (without_handle number whole) handle.inode ≡ held → first_failure (checks whole pass (ops.Release number)) ≡ None
         → IsStep t (tables_after (settling (not (r.refcount == 0) || held) t r.id) t) (effect whole pass (ops.Release number) now) 0
         × (keeps_rows whole pass (ops.Release number) ≡ (not (r.refcount == 0) || held)) }
+{}
+
+/// Where no check of a Setxattr fails, its batch leaves valid tables that represent the tree with the attribute: one more of its
+/// inode, where its name may be used once more, or another value of the one that is there.
+pub fn set_attributes_are_steps()
+    ensures new { (t : Tables) (whole : Tree) (p : Parameters) (r : Inode) (pass inode now : ℕ) (name : List ℕ) (flag : SetFlag) (value : List ℕ) (more : Raised)
+        → IsValid t → HasUniqueNames t → IsWellFormed whole → Represents t whole → t.params ≡ Some p → inode_at t inode ≡ Some r
+        → first_failure (checks whole pass (ops.Setxattr inode name flag value)) ≡ None → attr_of_name t inode name ≡ None → raised t name ≡ Some more
+        → IsStep t (tables_after (adding_attr r more value now) t) (effect whole pass (ops.Setxattr inode name flag value) now) 1 }
+    ensures there { (t : Tables) (whole : Tree) (p : Parameters) (r : Inode) (pass inode now : ℕ) (name : List ℕ) (flag : SetFlag) (value : List ℕ) (a : Attr)
+        → IsValid t → HasUniqueNames t → IsWellFormed whole → Represents t whole → t.params ≡ Some p → inode_at t inode ≡ Some r
+        → first_failure (checks whole pass (ops.Setxattr inode name flag value)) ≡ None → attr_of_name t inode name ≡ Some a
+        → IsStep t (tables_after (setting_attr r a.name_id value now) t) (effect whole pass (ops.Setxattr inode name flag value) now) 0 }
+{}
+
+/// And where no check of a Removexattr fails, its batch leaves those of the tree without the attribute.
+pub fn removed_attributes_are_steps()
+    ensures { (t : Tables) (whole : Tree) (p : Parameters) (r : Inode) (pass inode now : ℕ) (name : List ℕ) (a : Attr) (n : Name)
+        → IsValid t → HasUniqueNames t → IsWellFormed whole → Represents t whole → t.params ≡ Some p → inode_at t inode ≡ Some r
+        → first_failure (checks whole pass (ops.Removexattr inode name)) ≡ None → attr_of_name t inode name ≡ Some a → name_at t a.name_id ≡ Some n
+        → IsStep t (tables_after (removing_attr r a n now) t) (effect whole pass (ops.Removexattr inode name) now) 0 }
 {}
