@@ -1,10 +1,13 @@
-ghost use Rattle.std.specs.Prelude.{◌≡◌, ℕ, Some};
+ghost use Rattle.std.specs.Prelude.{◌≡◌, ℕ, List, Some, option_map};
 ghost use Rattle.plain_tree.specs.Tree.{Tree, node_at};
 ghost use Rattle.plain_tree.specs.Files.{file_at};
+ghost use Rattle.plain_tree.specs.Pages.{attribute_at};
 ghost use Rattle.plain_tree.specs.Checks.{node_check, directory_check, file_check, link_check, no_directory_check, lock_check, open_check, ids_check};
 ghost use Rattle.s3_rows.specs.Rows.{Parameters};
 ghost use Rattle.s3_rows.specs.Tables.{Tables};
 ghost use Rattle.s3_rows.specs.Selections.{inode_at};
+ghost use Rattle.s3_rows.specs.Validity.{IsValid, HasUniqueNames};
+ghost use Rattle.tree_rows.specs.NamedAttrs.{attr_of_name};
 ghost use Rattle.tree_rows.specs.Shapes.{Represents};
 ghost use Rattle.op_checks.specs.Rows.{row_check, directory_row_check, file_row_check, link_row_check, no_directory_row_check, lock_row_check, open_row_check, ids_row_check};
 
@@ -17,5 +20,7 @@ pub fn row_checks_are_checks()
     ensures no_directory { (t : Tables) (whole : Tree) (x errno : ℕ) → Represents t whole → no_directory_check errno (node_at whole x) ≡ no_directory_row_check errno (inode_at t x) }
     ensures lock { (t : Tables) (whole : Tree) (x : ℕ) → Represents t whole → lock_check (node_at whole x) ≡ lock_row_check (inode_at t x) }
     ensures open { (t : Tables) (whole : Tree) (x : ℕ) → Represents t whole → open_check (file_at whole x) ≡ open_row_check (inode_at t x) }
+    ensures attribute { (t : Tables) (whole : Tree) (x : ℕ) (name : List ℕ) → IsValid t → HasUniqueNames t → Represents t whole
+        → attribute_at whole x name ≡ option_map (λ a. a.value) (attr_of_name t x name) }
     ensures ids { (t : Tables) (whole : Tree) (p : Parameters) (count : ℕ) → Represents t whole → t.params ≡ Some p → ids_check whole count ≡ ids_row_check p count }
 {}

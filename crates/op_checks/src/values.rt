@@ -3,9 +3,10 @@ ghost use Rattle.std.specs.Prelude.{◌≡◌, ◌<◌, ◌≤◌, ◌==◌, ◌
 ghost use Rattle.std.specs.List.{list_any};
 ghost use Rattle.s3_base.specs.Names.{is_forbidden_name};
 ghost use Rattle.plain_tree.specs.Tree.{Tree};
-ghost use Rattle.plain_tree.specs.Checks.{name_check, attribute_name_check, target_check, mode_check, page_check, time_check, read_length_check, write_end_check, size_check, value_check, keep_check, root_check, cache_check};
+ghost use Rattle.plain_tree.specs.Checks.{name_check, attribute_name_check, target_check, mode_check, page_check, time_check, read_length_check, write_end_check, size_check, value_check, flag_check, keep_check, root_check, cache_check};
 ghost use Rattle.op_checks.specs.Checks.{Checks};
 
+use op_frames::SetFlag;
 use s3_base::{ByteList, Errno, LIMIT};
 
 /// The longest name of an entry or an attribute, in bytes.
@@ -171,6 +172,17 @@ pub fn check_value(value: &ByteList) -> Result<(), Errno>
         return Err(Errno::E2BIG);
     }
     Ok(())
+}
+
+/// EEXIST for a new attribute that is there, ENODATA for an old one that is not.
+pub fn check_flag(flag: SetFlag, present: bool) -> Result<(), Errno>
+    ensures { Checks result (flag_check flag present) }
+{
+    match flag {
+        SetFlag::New if present => Err(Errno::EEXIST),
+        SetFlag::Old if !present => Err(Errno::ENODATA),
+        SetFlag::Any | SetFlag::New | SetFlag::Old => Ok(()),
+    }
 }
 
 /// EPERM for the entry `lost+found` of the root.

@@ -33,7 +33,7 @@ use Rattle.tree_rows.proofs.Whole.{number_of}
 abbrev pub is_attr_of : ℕ → Attr → Bool
 is_attr_of inode r = r.inode == inode
 
-abbrev value_of : Attr → List ℕ
+abbrev pub value_of : Attr → List ℕ
 value_of r = r.value
 
 -- the name row that a listed attribute has

@@ -1,4 +1,5 @@
 use Rattle.op_checks.proofs.Nodes.{node_check-row, directory_check-row, file_check-row, link_check-row, no_directory_check-row, lock_check-row, open_check-row, ids_check-row}
+use Rattle.tree_rows.proofs.NamedAttrs.{attribute_at-row}
 use Rattle.op_checks.proofs.laws.row_checks_are_checks.Goals as goal
 
 pub returns-clause-node : goal.returns-clause-node
@@ -24,3 +25,6 @@ returns-clause-open c t whole x same = open_check-row t whole same x
 
 pub returns-clause-ids : goal.returns-clause-ids
 returns-clause-ids c t whole p count same set = ids_check-row t whole p count same set
+
+pub returns-clause-attribute : goal.returns-clause-attribute
+returns-clause-attribute c t whole x name v unique same = attribute_at-row t unique v.ordered.names v.ordered.attrs v.rows.attrs whole same x name
