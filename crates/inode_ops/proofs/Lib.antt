@@ -2,5 +2,6 @@ pub mod Counted
 pub mod NodeRows
 pub mod Opened
 pub mod Planned
+pub mod SetAttrs
 pub mod Sums
 pub mod Walked

@@ -1,3 +1,4 @@
 pub mod Answers
 pub mod Plans
+pub mod SetAttrs
 pub mod Tallies

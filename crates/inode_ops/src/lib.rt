@@ -7,5 +7,6 @@ mod handles_of;
 mod plans;
 mod reading;
 mod statfs;
+mod xattrs;
 
 pub use plans::plan;

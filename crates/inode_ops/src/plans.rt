@@ -15,13 +15,14 @@ use crate::attributes::{chmod_of, chown_of, getattr_of, utimes_of};
 use crate::handles_of::{open_of, release};
 use crate::reading::{getxattr, listxattr, readlink};
 use crate::statfs::statfs;
+use crate::xattrs::{removexattr, setxattr};
 use op_frames::{Op, Reply};
 use ref_counts::{Handles, Plan, answer};
 use s3_rows::{Keeper, KeeperFault};
 use std::alloc::Global;
 
-/// The plan of an operation of a pass at a time: Getattr, Chmod, Chown, Utimes, Readlink, Open, Release, Statfs, Getxattr,
-/// Listxattr or Leave. It commits nothing, and leaves the handles as they are.
+/// The plan of an operation of a pass at a time: Getattr, Chmod, Chown, Utimes, Readlink, Open, Release, Statfs, Setxattr,
+/// Getxattr, Listxattr, Removexattr or Leave. It commits nothing, and leaves the handles as they are.
 pub fn plan<K: Keeper>(
     alloc: Global,
     keeper: &mut K,
@@ -63,8 +64,15 @@ pub fn plan<K: Keeper>(
         }
         Op::Release { handle } => release(alloc, keeper, handles, pass, *handle),
         Op::Statfs => statfs(alloc, keeper),
+        Op::Setxattr {
+            inode,
+            name,
+            flag,
+            value,
+        } => setxattr(alloc, keeper, *inode, name, *flag, value, now),
         Op::Getxattr { inode, name } => getxattr(alloc, keeper, *inode, name),
         Op::Listxattr { inode, after, max } => listxattr(alloc, keeper, *inode, after, *max),
+        Op::Removexattr { inode, name } => removexattr(alloc, keeper, *inode, name, now),
         Op::Leave => Ok(answer(alloc, Ok(Reply::Done))),
         _ => unreachable!(),
     }

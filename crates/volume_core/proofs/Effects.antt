@@ -21,7 +21,7 @@ use Rattle.plain_tree.specs.Checks.{first_failure, node_check, file_check, hand_
 use Rattle.plain_tree.specs.Entries.{entry_at}
 use Rattle.plain_tree.specs.Files.{bytes_of, file_at, open_file}
 use Rattle.plain_tree.specs.Operations.{checks, effect, success, attr_reply, new_directory, new_file, make_checks}
-use Rattle.plain_tree.specs.Pages.{attribute_page, directory_page}
+use Rattle.plain_tree.specs.Pages.{attribute_page, directory_page, with_attribute, without_attribute}
 use Rattle.s3_rows.specs.Rows.{Inode}
 use Rattle.s3_rows.specs.Tables.{Tables}
 use Rattle.s3_rows.specs.Selections.{inode_at}
@@ -186,6 +186,8 @@ module _ (t : Tables) (whole : Tree) (v : IsValid t) (same : Represents t whole)
   fulfils (ops.Chown inode uid gid) is passes = changes (ops.Chown inode uid gid) (λ node. stamped now (record node { uid = uid; gid = gid })) inode inode whole has refl refl refl
   fulfils (ops.Utimes inode mtime) is passes = changes (ops.Utimes inode mtime) (λ node. stamped now (record node { mtime = mtime })) inode inode whole has refl refl refl
   fulfils ops.Statfs is passes = keeps ops.Statfs refl refl has
+  fulfils (ops.Setxattr inode name flag value) is passes = keeps (ops.Setxattr inode name flag value) refl refl (own_handles (λ node. stamped now (with_attribute name value node)) inode whole h has)
+  fulfils (ops.Removexattr inode name) is passes = keeps (ops.Removexattr inode name) refl refl (own_handles (λ node. stamped now (without_attribute name node)) inode whole h has)
   fulfils (ops.Create parent name mode uid gid) is passes = record {
     hand = λ inode some. create_hand whole pass parent name mode uid gid passes;
     handles = create_handles whole pass parent name mode uid gid now h has;

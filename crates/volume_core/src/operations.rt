@@ -135,8 +135,10 @@ impl<K: Keeper> RowCore<K> {
             | Op::Open { .. }
             | Op::Release { .. }
             | Op::Statfs
+            | Op::Setxattr { .. }
             | Op::Getxattr { .. }
             | Op::Listxattr { .. }
+            | Op::Removexattr { .. }
             | Op::Leave => self.on_inodes(pass, op, now),
             Op::Lookup { .. } | Op::Mkdir { .. } | Op::Create { .. } | Op::Readdir { .. } => {
                 self.on_entries(pass, op, now)

@@ -85,3 +85,19 @@ returns-in-Leave-clause-plan g c =
     (λ t v unique named whole same well has.
     subst (λ (op : Op). IsPlanOf t whole c.args.pass op c.args.now c.answer.result) (sym c.in-Leave.is)
     (subst (λ (p : Plan). IsPlanOf t whole c.args.pass ops.Leave c.args.now p) (sym c.answer.ensures.plan) (leave_planned t whole c.args.pass c.args.now v same (named (ap (λ (op : Op). is_closing (class_of op)) c.in-Leave.is)))))
+
+pub returns-in-Setxattr-clause-plan : goal.returns-in-Setxattr-clause-plan
+returns-in-Setxattr-clause-plan g c =
+    if_ok _ _ (λ p own.
+    IfTold-weaker (g.K.Keeper.told c.args.keeper.now) _ _
+    (λ t planned v unique named whole same well has. subst (λ (op : Op). IsPlanOf t whole c.args.pass op c.args.now p) (sym c.in-Setxattr.is) (planned v unique whole c.args.pass same well))
+    own)
+    c.setxattr.result c.setxattr.ensures.plan
+
+pub returns-in-Removexattr-clause-plan : goal.returns-in-Removexattr-clause-plan
+returns-in-Removexattr-clause-plan g c =
+    if_ok _ _ (λ p own.
+    IfTold-weaker (g.K.Keeper.told c.args.keeper.now) _ _
+    (λ t planned v unique named whole same well has. subst (λ (op : Op). IsPlanOf t whole c.args.pass op c.args.now p) (sym c.in-Removexattr.is) (planned v unique whole c.args.pass same well))
+    own)
+    c.removexattr.result c.removexattr.ensures.plan
