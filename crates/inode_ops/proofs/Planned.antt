@@ -62,12 +62,6 @@ replaced t next drawn r new is count valid represents = record {
   small = same_small t (after_change (changes.PutInode new) t).inodes drawn;
 }
 
--- an operation that needs no name finds none worn
-pub never_worn : (t : Tables) (whole : Tree) (op : Op) → name_used whole op ≡ None → IsWorn t whole op → ⊥
-never_worn t whole op nameless worn =
-    let none : ⊥ = subst (λ (used : Option (List ℕ)). elim used as (λ _. Type 0) [ Some name ↦ raised t name ≡ None | None ↦ ⊥ ]) nameless worn in
-    none
-
 -- ---- no row is changed
 
 -- What checks answered is the plan of an operation that changes no row, where the reply is that of its success.

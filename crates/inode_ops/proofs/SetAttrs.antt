@@ -27,10 +27,11 @@ use Rattle.ref_counts.specs.Names.{Raised, raised}
 use Rattle.ref_counts.specs.Plans.{IsPlanOf, IsStep, IsWorn}
 use Rattle.ref_counts.specs.declared.plan.Plan.{Plan}
 use Rattle.ref_counts.specs.declared.plan.Plan.TheVariants as plans
+use Rattle.ref_counts.proofs.Idle.{IsWorn-nameless}
 use Rattle.row_steps.specs.RowChanges.{adding_attr, lowered, removing_attr, setting_attr, stamped_row}
 use Rattle.row_steps.proofs.Attributes.{new_attribute_step, removed_attribute_step, set_attribute_step}
 use Rattle.inode_ops.specs.SetAttrs.{IsAdding, IsSetting}
-use Rattle.inode_ops.proofs.Planned.{never_worn, there, unlocked}
+use Rattle.inode_ops.proofs.Planned.{there, unlocked}
 
 -- a batch with a change in it, behind others
 some_change : (c : Change) (cs : List Change) → (length (c ∷ cs) == 0) ≡ false
@@ -81,7 +82,7 @@ module _ (t : Tables) (whole : Tree) (pass x now : ℕ) (name : List ℕ) (v : I
           let none : names_drawn whole setting ≡ 0 = ap (λ (used : Option (List ℕ)). cond (is_some used) 1 0) nameless in
           let step : IsStep t after (effect whole pass setting now) 0 =
           set_attribute_step t whole v.params row pass x now name v unique well same v.is_made row_there flag value a passes (sym attr_is ∙ a_is) in
-          (passes, refl, subst (IsStep t after (effect whole pass setting now)) (sym none) step, refl, refl, never_worn t whole setting nameless)
+          (passes, refl, subst (IsStep t after (effect whole pass setting now)) (sym none) step, refl, refl, IsWorn-nameless t whole setting nameless)
 
       module _ (new : attr ≡ None) where
         used : name_used whole setting ≡ Some name
@@ -136,5 +137,5 @@ module _ (t : Tables) (whole : Tree) (pass x now : ℕ) (name : List ℕ) (v : I
         removed_attribute_step t whole v.params row pass x now name v unique well same v.is_made (sym is ∙ row_is) a named.row passes (sym attr_is ∙ a_is) named.named,
         some_change (changes.DeleteAttr a.inode a.name_id) (changes.PutInode (stamped_row now row) ∷ lowered named.row),
         refl,
-        never_worn t whole (ops.Removexattr x name) refl,
+        IsWorn-nameless t whole (ops.Removexattr x name) refl,
       )
