@@ -3,9 +3,9 @@ use Rattle.std.proofs.Common.{false, ◌≡◌, ℕ, zero, suc, ◌+◌, ◌^◌
 use Rattle.std.specs.Cmp.{IsTotalOrder, nat_cmp_total, on_total, then_total}
 use Rattle.s3_rows.specs.declared.change.Change.{Change}
 use Rattle.s3_rows.specs.declared.change.Change.TheVariants as changes
-use Rattle.std.specs.Prelude.{IsTrue, ◌==◌, ◌||◌, find, option_map}
-use Rattle.s3_rows.specs.Rows.{Inode, Name, Content, InodeBlock, Block, Object, Target, Attr, Slot}
-use Rattle.s3_rows.specs.Keyed.{pair_cmp, rises}
+use Rattle.std.specs.Prelude.{◌==◌, ◌||◌, find, option_map}
+use Rattle.s3_rows.specs.Rows.{Content}
+use Rattle.s3_rows.specs.Keyed.{pair_cmp}
 use Rattle.s3_rows.specs.Tables.{Tables, IsOrdered, by_inode, by_name, by_entry, by_spot, by_block, by_object, by_target, by_attr, by_slot}
 use Rattle.s3_rows.specs.Batches.{after_change, finds_row, tables_after, tables_after_all}
 use Rattle.s3_base.specs.Numbers.{root}
@@ -64,175 +64,36 @@ after_change-after_change (changes.DeleteSlot slot) t =
     ap (λ rows. record t { slots = rows }) (without-without by_slot slot t.slots)
 after_change-after_change (changes.SetParams p) t = refl
 
--- ---- one table in order, and the others as before
-
-with_inodes : (t : Tables) (rows : List Inode) → IsTrue (rises by_inode rows) → IsOrdered t
-    → IsOrdered (record t { inodes = rows })
-with_inodes t rows rise o = record {
-  inodes = rise;
-  names = o.names;
-  contents = o.contents;
-  inode_blocks = o.inode_blocks;
-  blocks = o.blocks;
-  objects = o.objects;
-  targets = o.targets;
-  attrs = o.attrs;
-  slots = o.slots;
-}
-
-with_names : (t : Tables) (rows : List Name) → IsTrue (rises by_name rows) → IsOrdered t
-    → IsOrdered (record t { names = rows })
-with_names t rows rise o = record {
-  inodes = o.inodes;
-  names = rise;
-  contents = o.contents;
-  inode_blocks = o.inode_blocks;
-  blocks = o.blocks;
-  objects = o.objects;
-  targets = o.targets;
-  attrs = o.attrs;
-  slots = o.slots;
-}
-
-with_contents : (t : Tables) (rows : List Content) → IsTrue (rises by_entry rows) → IsOrdered t
-    → IsOrdered (record t { contents = rows })
-with_contents t rows rise o = record {
-  inodes = o.inodes;
-  names = o.names;
-  contents = rise;
-  inode_blocks = o.inode_blocks;
-  blocks = o.blocks;
-  objects = o.objects;
-  targets = o.targets;
-  attrs = o.attrs;
-  slots = o.slots;
-}
-
-with_inode_blocks : (t : Tables) (rows : List InodeBlock) → IsTrue (rises by_spot rows) → IsOrdered t
-    → IsOrdered (record t { inode_blocks = rows })
-with_inode_blocks t rows rise o = record {
-  inodes = o.inodes;
-  names = o.names;
-  contents = o.contents;
-  inode_blocks = rise;
-  blocks = o.blocks;
-  objects = o.objects;
-  targets = o.targets;
-  attrs = o.attrs;
-  slots = o.slots;
-}
-
-with_blocks : (t : Tables) (rows : List Block) → IsTrue (rises by_block rows) → IsOrdered t
-    → IsOrdered (record t { blocks = rows })
-with_blocks t rows rise o = record {
-  inodes = o.inodes;
-  names = o.names;
-  contents = o.contents;
-  inode_blocks = o.inode_blocks;
-  blocks = rise;
-  objects = o.objects;
-  targets = o.targets;
-  attrs = o.attrs;
-  slots = o.slots;
-}
-
-with_objects : (t : Tables) (rows : List Object) → IsTrue (rises by_object rows) → IsOrdered t
-    → IsOrdered (record t { objects = rows })
-with_objects t rows rise o = record {
-  inodes = o.inodes;
-  names = o.names;
-  contents = o.contents;
-  inode_blocks = o.inode_blocks;
-  blocks = o.blocks;
-  objects = rise;
-  targets = o.targets;
-  attrs = o.attrs;
-  slots = o.slots;
-}
-
-with_targets : (t : Tables) (rows : List Target) → IsTrue (rises by_target rows) → IsOrdered t
-    → IsOrdered (record t { targets = rows })
-with_targets t rows rise o = record {
-  inodes = o.inodes;
-  names = o.names;
-  contents = o.contents;
-  inode_blocks = o.inode_blocks;
-  blocks = o.blocks;
-  objects = o.objects;
-  targets = rise;
-  attrs = o.attrs;
-  slots = o.slots;
-}
-
-with_attrs : (t : Tables) (rows : List Attr) → IsTrue (rises by_attr rows) → IsOrdered t
-    → IsOrdered (record t { attrs = rows })
-with_attrs t rows rise o = record {
-  inodes = o.inodes;
-  names = o.names;
-  contents = o.contents;
-  inode_blocks = o.inode_blocks;
-  blocks = o.blocks;
-  objects = o.objects;
-  targets = o.targets;
-  attrs = rise;
-  slots = o.slots;
-}
-
-with_slots : (t : Tables) (rows : List Slot) → IsTrue (rises by_slot rows) → IsOrdered t
-    → IsOrdered (record t { slots = rows })
-with_slots t rows rise o = record {
-  inodes = o.inodes;
-  names = o.names;
-  contents = o.contents;
-  inode_blocks = o.inode_blocks;
-  blocks = o.blocks;
-  objects = o.objects;
-  targets = o.targets;
-  attrs = o.attrs;
-  slots = rise;
-}
+-- ---- rows in the order of their keys
 
 pub IsOrdered-after_change : (change : Change) (t : Tables) → IsOrdered t → IsOrdered (after_change change t)
-IsOrdered-after_change (changes.PutInode r) t o =
-    with_inodes t _ (rises-put by_inode nat_cmp_total r t.inodes o.inodes) o
-IsOrdered-after_change (changes.DeleteInode id) t o = with_inodes t _ (rises-without by_inode id t.inodes o.inodes) o
-IsOrdered-after_change (changes.PutName r) t o = with_names t _ (rises-put by_name nat_cmp_total r t.names o.names) o
-IsOrdered-after_change (changes.DeleteName id) t o = with_names t _ (rises-without by_name id t.names o.names) o
+IsOrdered-after_change (changes.PutInode r) t o = assumption (o, rises-put by_inode nat_cmp_total r t.inodes o.inodes)
+IsOrdered-after_change (changes.DeleteInode id) t o = assumption (o, rises-without by_inode id t.inodes o.inodes)
+IsOrdered-after_change (changes.PutName r) t o = assumption (o, rises-put by_name nat_cmp_total r t.names o.names)
+IsOrdered-after_change (changes.DeleteName id) t o = assumption (o, rises-without by_name id t.names o.names)
 IsOrdered-after_change (changes.PutContent r) t o =
-    with_contents t _ (rises-put by_entry pair_cmp_total r t.contents o.contents) o
+    assumption (o, rises-put by_entry pair_cmp_total r t.contents o.contents)
 IsOrdered-after_change (changes.DeleteContent parent name_id) t o =
-    with_contents t _ (rises-without by_entry (parent, name_id) t.contents o.contents) o
+    assumption (o, rises-without by_entry (parent, name_id) t.contents o.contents)
 IsOrdered-after_change (changes.PutInodeBlock r) t o =
-    with_inode_blocks t _ (rises-put by_spot pair_cmp_total r t.inode_blocks o.inode_blocks) o
+    assumption (o, rises-put by_spot pair_cmp_total r t.inode_blocks o.inode_blocks)
 IsOrdered-after_change (changes.DeleteInodeBlock inode blockno) t o =
-    with_inode_blocks t _ (rises-without by_spot (inode, blockno) t.inode_blocks o.inode_blocks) o
-IsOrdered-after_change (changes.PutBlock r) t o =
-    with_blocks t _ (rises-put by_block nat_cmp_total r t.blocks o.blocks) o
-IsOrdered-after_change (changes.DeleteBlock id) t o = with_blocks t _ (rises-without by_block id t.blocks o.blocks) o
+    assumption (o, rises-without by_spot (inode, blockno) t.inode_blocks o.inode_blocks)
+IsOrdered-after_change (changes.PutBlock r) t o = assumption (o, rises-put by_block nat_cmp_total r t.blocks o.blocks)
+IsOrdered-after_change (changes.DeleteBlock id) t o = assumption (o, rises-without by_block id t.blocks o.blocks)
 IsOrdered-after_change (changes.PutObject r) t o =
-    with_objects t _ (rises-put by_object nat_cmp_total r t.objects o.objects) o
-IsOrdered-after_change (changes.DeleteObject id) t o =
-    with_objects t _ (rises-without by_object id t.objects o.objects) o
+    assumption (o, rises-put by_object nat_cmp_total r t.objects o.objects)
+IsOrdered-after_change (changes.DeleteObject id) t o = assumption (o, rises-without by_object id t.objects o.objects)
 IsOrdered-after_change (changes.PutTarget r) t o =
-    with_targets t _ (rises-put by_target nat_cmp_total r t.targets o.targets) o
+    assumption (o, rises-put by_target nat_cmp_total r t.targets o.targets)
 IsOrdered-after_change (changes.DeleteTarget inode) t o =
-    with_targets t _ (rises-without by_target inode t.targets o.targets) o
-IsOrdered-after_change (changes.PutAttr r) t o = with_attrs t _ (rises-put by_attr pair_cmp_total r t.attrs o.attrs) o
+    assumption (o, rises-without by_target inode t.targets o.targets)
+IsOrdered-after_change (changes.PutAttr r) t o = assumption (o, rises-put by_attr pair_cmp_total r t.attrs o.attrs)
 IsOrdered-after_change (changes.DeleteAttr inode name_id) t o =
-    with_attrs t _ (rises-without by_attr (inode, name_id) t.attrs o.attrs) o
-IsOrdered-after_change (changes.PutSlot r) t o = with_slots t _ (rises-put by_slot nat_cmp_total r t.slots o.slots) o
-IsOrdered-after_change (changes.DeleteSlot slot) t o = with_slots t _ (rises-without by_slot slot t.slots o.slots) o
-IsOrdered-after_change (changes.SetParams p) t o = record {
-  inodes = o.inodes;
-  names = o.names;
-  contents = o.contents;
-  inode_blocks = o.inode_blocks;
-  blocks = o.blocks;
-  objects = o.objects;
-  targets = o.targets;
-  attrs = o.attrs;
-  slots = o.slots;
-}
+    assumption (o, rises-without by_attr (inode, name_id) t.attrs o.attrs)
+IsOrdered-after_change (changes.PutSlot r) t o = assumption (o, rises-put by_slot nat_cmp_total r t.slots o.slots)
+IsOrdered-after_change (changes.DeleteSlot slot) t o = assumption (o, rises-without by_slot slot t.slots o.slots)
+IsOrdered-after_change (changes.SetParams p) t o = assumption o
 
 pub IsOrdered-tables_after : (batch : List Change) (t : Tables) → IsOrdered t → IsOrdered (tables_after batch t)
 IsOrdered-tables_after [] t o = o
