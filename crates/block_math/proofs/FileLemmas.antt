@@ -4,18 +4,15 @@ use Rattle.std.proofs.Math.ListN.{get_or-append}
 use Rattle.std.proofs.Math.Nat.{mul-le-mul_right, div-mul-le_self}
 use Rattle.std.proofs.Math.Seq.{get_or-append_right}
 use Rattle.std.proofs.lemmas.Bool.{cases_lt}
-use Rattle.std.proofs.lemmas.List.{get_or_past, get_or-drop, get_or-take, length-take, length-take-le, length-replicate, ext_get_or, get_or-append-add}
-use Rattle.block_math.specs.Blocks.{padded, piece_of, block_of, patched, cut_at}
-use Rattle.block_math.specs.Changes.{written_at}
+use Rattle.std.proofs.lemmas.List.{get_or_past, get_or-drop, get_or-take, length-take, length-take-le, ext_get_or, get_or-append-add}
+use Rattle.block_math.specs.Blocks.{piece_of, block_of, patched, cut_at}
+use Rattle.block_math.specs.Changes.{padded, written_at}
 use Rattle.block_math.specs.Ranges.{piece_count, piece_start, IsPiece}
 use Rattle.block_math.specs.declared.parts.Piece.{Piece}
+use Rattle.block_math.proofs.LengthLemmas.{length-padded, le-padded}
 use Rattle.block_math.proofs.PieceLemmas.{piece_start-whole}
 
 -- ---- lengths
-
-length-padded : (size : ℕ) (bytes : List ℕ) → length (padded size bytes) ≡ length bytes + (size - length bytes)
-length-padded size bytes =
-    length-append bytes (replicate (size - length bytes) 0) ∙ ap (λ n. length bytes + n) (length-replicate (size - length bytes) 0)
 
 pub length-block_of : (size n : ℕ) (bytes : List ℕ) → length (block_of size bytes n) ≡ size
 length-block_of size n bytes = omega (arith, length-padded size (piece_of size bytes n), length-take size (drop (n * size) bytes))
@@ -78,7 +75,7 @@ spliced at front new before size same =
 spliced_by_write : (off : ℕ) (new bytes : List ℕ) → IsSpliced off new bytes (written_at off new bytes)
 spliced_by_write off new bytes =
     spliced off (take off (padded off bytes)) new bytes
-    (length-take-le off (padded off bytes) (omega (arith, length-padded off bytes)))
+    (length-take-le off (padded off bytes) (le-padded off bytes))
     (λ i low. get_or-take off (padded off bytes) i 0 low ∙ get_or-padded off bytes i)
 
 spliced_by_patch : (at : ℕ) (new block : List ℕ) → at + length new ≤ length block → IsSpliced at new block (patched at new block)

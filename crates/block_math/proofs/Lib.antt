@@ -1,3 +1,4 @@
 pub mod FileLemmas
+pub mod LengthLemmas
 pub mod PieceLemmas
 pub mod TrimmedLemmas

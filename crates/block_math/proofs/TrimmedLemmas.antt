@@ -3,7 +3,8 @@ use Rattle.std.proofs.Common.{◌≡◌, ◌≢◌, ℕ, zero, suc, ◌+◌, ◌
 use Rattle.std.specs.Prelude.{◌==◌}
 use Rattle.std.proofs.lemmas.Bool.Decides.{nat_tests}
 use Rattle.std.proofs.Math.Seq.{take-suc}
-use Rattle.block_math.specs.Blocks.{padded, piece_of, block_of, before_trimmed, trimmed}
+use Rattle.block_math.specs.Blocks.{piece_of, block_of, before_trimmed, trimmed}
+use Rattle.block_math.specs.Changes.{padded}
 
 none_from_test : (n : ℕ) → (n == 0) ≡ true → n ≡ 0
 none_from_test n is = grind (arith, nat_tests)

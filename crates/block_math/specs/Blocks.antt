@@ -1,9 +1,6 @@
 -- Blocks of a file: its bytes in pieces of one size.
-use Rattle.std.specs.Prelude.{ℕ, zero, suc, ◌+◌, ◌-◌, ◌*◌, ◌/◌, List, [], ◌∷◌, ◌++◌, length, take, drop, replicate, ◌==◌, if◌then◌else◌}
-
--- lengthened with zeros to a length that it has not yet
-abbrev pub padded : ℕ → List ℕ → List ℕ
-padded size bytes = bytes ++ replicate (size - length bytes) 0
+use Rattle.std.specs.Prelude.{ℕ, zero, suc, ◌+◌, ◌-◌, ◌*◌, ◌/◌, List, [], ◌∷◌, ◌++◌, length, take, drop, ◌==◌, if◌then◌else◌}
+use Rattle.block_math.specs.Changes.{padded}
 
 -- the bytes of a file that lie in its n-th block; none at or past its end
 abbrev pub piece_of : ℕ → List ℕ → ℕ → List ℕ

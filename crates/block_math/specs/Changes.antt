@@ -1,6 +1,9 @@
 -- What a write and a change of its length do to the bytes of a file.
-use Rattle.std.specs.Prelude.{ℕ, ◌+◌, List, ◌++◌, length, take, drop}
-use Rattle.block_math.specs.Blocks.{padded}
+use Rattle.std.specs.Prelude.{ℕ, ◌+◌, ◌-◌, List, ◌++◌, length, take, drop, replicate}
+
+-- lengthened with zeros to a length that it has not yet
+abbrev pub padded : ℕ → List ℕ → List ℕ
+padded size bytes = bytes ++ replicate (size - length bytes) 0
 
 -- with the data at the offset: what it overlaps is replaced, and a gap is filled with zeros
 abbrev pub written_at : ℕ → List ℕ → List ℕ → List ℕ

@@ -1,7 +1,7 @@
 //! What the definitions of blocks and pieces say together. Each is the contract of a function without a body.
 ghost use Rattle.std.specs.Prelude.{◌≡◌, ◌≢◌, ℕ, ◌+◌, ◌-◌, ◌*◌, ◌/◌, ◌<◌, ◌≤◌, ◌⊎◌, List, [], ◌∷◌, ◌++◌, length, take, drop, slice_index};
-ghost use Rattle.block_math.specs.Blocks.{padded, block_of, piece_of, trimmed, forms_of, patched, cut_at};
-ghost use Rattle.block_math.specs.Changes.{written_at, resized};
+ghost use Rattle.block_math.specs.Blocks.{block_of, piece_of, trimmed, forms_of, patched, cut_at};
+ghost use Rattle.block_math.specs.Changes.{padded, written_at, resized};
 ghost use Rattle.block_math.specs.declared.parts.Piece.{Piece};
 ghost use Rattle.block_math.specs.Ranges.{piece_count, piece_start, IsPiece};
 

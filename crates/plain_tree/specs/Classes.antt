@@ -1,5 +1,5 @@
 -- Operations by what they work on, and what a call of one takes beside its effect on the tree.
-use Rattle.std.specs.Prelude.{ℕ, ◌==◌, List, length, filter, Bool, true, false, not, ◌&&◌, ◌||◌, nat_eq, Option, None, Some, is_some, if◌then◌else◌}
+use Rattle.std.specs.Prelude.{ℕ, ◌==◌, List, length, filter, Bool, true, false, not, ◌||◌, nat_eq, Option, None, Some, is_some, if◌then◌else◌}
 use Rattle.std.specs.List.{list_all}
 use Rattle.std.specs.Cmp.Lexicographic.{pointwise}
 use Rattle.op_frames.specs.declared.operation.Op.{Op}

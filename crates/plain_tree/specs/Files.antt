@@ -1,14 +1,8 @@
 -- The bytes of regular files.
-use Rattle.std.specs.Prelude.{ℕ, ◌+◌, ◌-◌, List, ◌++◌, length, take, drop, replicate, Option, None, Some, option_and_then}
+use Rattle.std.specs.Prelude.{ℕ, List, take, drop, Option, None, Some, option_and_then}
 use Rattle.plain_tree.specs.Tree.{Content, Regular, Directory, Link, Handle, Tree, node_at, handle_of}
-
--- lengthened with zeros to a length that it has not yet
-abbrev pub padded : ℕ → List ℕ → List ℕ
-padded size bytes = bytes ++ replicate (size - length bytes) 0
-
--- with the data at the offset: what it overlaps is replaced, and a gap is filled with zeros
-abbrev pub written_at : ℕ → List ℕ → List ℕ → List ℕ
-written_at offset new bytes = take offset (padded offset bytes) ++ new ++ drop (offset + length new) bytes
+-- what a write and a change of its length do to the bytes of a file
+pub use Rattle.block_math.specs.Changes.{padded, written_at, resized}
 
 -- at most so many bytes from the offset on
 abbrev pub read_at : ℕ → ℕ → List ℕ → List ℕ
@@ -37,10 +31,6 @@ abbrev pub with_bytes : (List ℕ → List ℕ) → Content → Content
 with_bytes f (Regular bytes) = Regular (f bytes)
 with_bytes f (Directory entries) = Directory entries
 with_bytes f (Link target) = Link target
-
--- cut, or lengthened with zeros
-abbrev pub resized : ℕ → List ℕ → List ℕ
-resized size bytes = take size (padded size bytes)
 
 -- the target of a symbolic link
 abbrev pub target_of : Content → Option (List ℕ)

@@ -1,7 +1,7 @@
 -- The files of the tree that tables stand for are as long as their rows say.
 use Rattle.std.proofs.Common.{◌≡◌, ◌≤◌, ◌<◌, ℕ, zero, suc, ◌+◌, ◌-◌, ◌*◌, ◌/◌, List, [], ◌∷◌, length, refl, sym, ap, ◌∙◌, arith, length-append}
-use Rattle.std.specs.Prelude.{map, replicate, option_map, unwrap_or}
-use Rattle.std.proofs.lemmas.List.{length-take, length-replicate}
+use Rattle.std.specs.Prelude.{map, option_map, unwrap_or}
+use Rattle.std.proofs.lemmas.List.{length-take}
 use Rattle.std.proofs.Math.Nat.{mod-lt, suc-mul, zero-mul}
 use Rattle.std.proofs.lemmas.Nat.{div-add-mod'}
 use Rattle.s3_base.specs.declared.node_kind.Kind.{Kind}
@@ -10,13 +10,9 @@ use Rattle.plain_tree.specs.Tree as tree
 use Rattle.s3_rows.specs.Rows.{Inode}
 use Rattle.s3_rows.specs.Tables.{Tables}
 use Rattle.tree_rows.specs.Shapes.{ContentShape, Regular, Directory, Link, NodeShape, shape_of_content, shape_of_node, shape_of_tables, entries_in, target_in, node_of_row, Represents}
-use Rattle.plain_tree.specs.Files.{padded}
+use Rattle.block_math.specs.Changes.{padded}
+use Rattle.block_math.proofs.LengthLemmas.{le-padded}
 use Rattle.tree_rows.specs.Contents.{Contents, stored_at, blocks_from, bytes_in, node_in, tree_of}
-
-padded_length : (size : ℕ) (bytes : List ℕ) → size ≤ length (padded size bytes)
-padded_length size bytes =
-    let zero_byte : ℕ = 0 in
-    omega (arith, length-append bytes (replicate (size - length bytes) zero_byte), length-replicate (size - length bytes) zero_byte)
 
 -- so many blocks have so many bytes at least
 long_enough : (contents : Contents) (t : Tables) (size inode count blockno : ℕ) → count * size ≤ length (blocks_from contents t size inode count blockno)
@@ -24,7 +20,7 @@ long_enough contents t size inode zero blockno = rw (zero-mul size) (omega arith
 long_enough contents t size inode (suc count) blockno =
     let block : List ℕ = padded size (stored_at contents t inode blockno) in
     let others : List ℕ = blocks_from contents t size inode count (blockno + 1) in
-    omega (arith, suc-mul count size, length-append block others, padded_length size (stored_at contents t inode blockno), long_enough contents t size inode count (blockno + 1))
+    omega (arith, suc-mul count size, length-append block others, le-padded size (stored_at contents t inode blockno), long_enough contents t size inode count (blockno + 1))
 
 -- the blocks of a file reach to its end
 reach : (size block_size : ℕ) → 0 < block_size → size ≤ (size + block_size - 1) / block_size * block_size

@@ -6,7 +6,7 @@ use Rattle.std.specs.BTreeMap.{is_at}
 use Rattle.std.specs.Cmp.Lexicographic.{slice_cmp}
 use Rattle.s3_base.specs.declared.node_kind.Kind.TheVariants as kinds
 use Rattle.plain_tree.specs.Tree as tree
-use Rattle.plain_tree.specs.Files.{padded}
+use Rattle.block_math.specs.Changes.{padded}
 use Rattle.s3_rows.specs.Rows.{Inode, Block}
 use Rattle.s3_rows.specs.Tables.{Tables}
 use Rattle.s3_rows.specs.Selections.{inode_block_at, block_at}

@@ -1,12 +1,13 @@
 -- The bytes of a file after a write, and after a truncation.
-use Rattle.std.proofs.Common.{◌≡◌, ℕ, ◌+◌, ◌≤◌, List, [], ◌++◌, sym, ap, ◌∙◌, inl, inr, arith}
+use Rattle.std.proofs.Common.{◌≡◌, ℕ, ◌+◌, ◌≤◌, List, [], ◌++◌, sym, ap, ◌∙◌, inl, inr}
 use Rattle.std.proofs.Math.ListN.{drop_of_length-le}
 use Rattle.std.proofs.Math.Nat.{add-sub_of_le, le_of_lt, sub-eq-zero_of_le, min-le_left, min-le_right}
 use Rattle.std.proofs.Math.Seq.{take-length, take-append_seam, drop-append_seam, drop-append-add}
 use Rattle.std.proofs.lemmas.Bool.{cases_lt}
-use Rattle.std.proofs.lemmas.List.{append_assoc, length-append, length-replicate, length-take-le, take-append-le, take-take}
+use Rattle.std.proofs.lemmas.List.{append_assoc, length-take-le, take-append-le, take-take}
 use Rattle.std.specs.Prelude.{◌-◌, length, take, drop, replicate, min}
-use Rattle.plain_tree.specs.Files.{padded, written_at, resized}
+use Rattle.block_math.specs.Changes.{padded, written_at, resized}
+use Rattle.block_math.proofs.LengthLemmas.{length-padded, le-padded, length-resized}
 use Rattle.tree_laws.specs.Files.{HasBytesAt}
 
 -- ---- a list behind another, whose length is given
@@ -19,14 +20,6 @@ back n head rest long = sym (ap (λ k. drop k (head ++ rest)) long) ∙ drop-app
 
 back-add : (n m : ℕ) (head rest : List ℕ) → length head ≡ n → drop (n + m) (head ++ rest) ≡ drop m rest
 back-add n m head rest long = sym (ap (λ k. drop (k + m) (head ++ rest)) long) ∙ drop-append-add head rest m
-
--- ---- padding
-
-length-padded : (n : ℕ) (bytes : List ℕ) → length (padded n bytes) ≡ length bytes + (n - length bytes)
-length-padded n bytes = length-append bytes (replicate (n - length bytes) 0) ∙ ap (λ k. length bytes + k) (length-replicate (n - length bytes) 0)
-
-pub le-padded : (n : ℕ) (bytes : List ℕ) → n ≤ length (padded n bytes)
-le-padded n bytes = rw (length-padded n bytes) (omega arith)
 
 -- ---- a write
 
@@ -44,9 +37,6 @@ written_bytes offset text old =
     }
 
 -- ---- a truncation
-
-pub length-resized : (size : ℕ) (old : List ℕ) → length (resized size old) ≡ size
-length-resized size old = length-take-le size (padded size old) (le-padded size old)
 
 pub front-resized : (size : ℕ) (old : List ℕ) → take (min size (length old)) (resized size old) ≡ take (min size (length old)) old
 front-resized size old =

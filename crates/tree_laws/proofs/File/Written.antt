@@ -11,7 +11,8 @@ use Rattle.plain_tree.specs.Operations.{reply_to, checks, tree_after}
 use Rattle.plain_tree.specs.Tree.{Tree, Regular, Node, node_at, handle_of, changed_by, change_node, touched}
 use Rattle.plain_tree.proofs.Replies.{reply_at, tree_at}
 use Rattle.tree_laws.specs.Files.{with_content, IsWritten, IsResized, ReadsAs, ReadsThere}
-use Rattle.tree_laws.proofs.File.Bytes.{written_bytes, length-resized, front-resized, zeros-resized}
+use Rattle.block_math.proofs.LengthLemmas.{length-resized}
+use Rattle.tree_laws.proofs.File.Bytes.{written_bytes, front-resized, zeros-resized}
 use Rattle.tree_laws.proofs.Node.Kind.{file_of, opened_file}
 use Rattle.tree_laws.proofs.Node.Reading.{node_at-changed_by_same, changed_by-changes_one, node_of_handle}
 use Rattle.tree_laws.proofs.Walk.Calls.{passes_by}

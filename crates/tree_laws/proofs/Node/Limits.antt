@@ -13,7 +13,7 @@ use Rattle.plain_tree.specs.Operations.{tree_after}
 use Rattle.plain_tree.specs.Subtrees.{copied_content}
 use Rattle.plain_tree.specs.Tree.{Content, Regular, Directory, Link, Node, Tree, node_at, changed_by, named}
 use Rattle.plain_tree.specs.WellFormed.{IsWithinLimits, AreAttributes, AreWithinLimits, IsWithinRules, HaveModes, AreTimes, HasTimes}
-use Rattle.tree_laws.proofs.File.Bytes.{length-resized, le-padded}
+use Rattle.block_math.proofs.LengthLemmas.{le-padded, length-resized}
 use Rattle.tree_laws.proofs.Node.Each.{EachEntry, each-insert_entry, each-remove_entry, Each, Changes, Keeps, each-found, each-tree_after}
 use Rattle.tree_laws.proofs.Walk.Calls.{walk-tree_after}
 use Rattle.tree_laws.proofs.Walk.Edits.{Edit, Mode, Mtime, Resize, Write, Attribute, NoAttribute, Entry, NoEntry, edited, Fits, NewNode, File, Folder, Symlink, built, Begins}

@@ -1,5 +1,6 @@
 use Rattle.std.proofs.Common.{◌∙◌, ap, ◌-◌, ◌*◌}
-use Rattle.block_math.specs.Blocks.{padded, cut_at}
+use Rattle.block_math.specs.Blocks.{cut_at}
+use Rattle.block_math.specs.Changes.{padded}
 use Rattle.block_math.proofs.FileLemmas.{block_of-take, block_of-padded}
 use Rattle.block_math.proofs.laws.resized_blocks_are_cut.Goals as goal
 
