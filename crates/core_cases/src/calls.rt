@@ -1,11 +1,10 @@
 //! The frame of a call, from its words.
 
-use case_words::bytes_of;
+use case_words::{Words, bytes_of, named};
 use std::alloc::{AllocError, Global};
-use std::io;
 
 /// A field of an operation, and how its word is read.
-#[derive(Clone, Copy, Debug)]
+#[derive(Clone, Copy)]
 enum Field {
     /// A number of eight bytes.
     Long,
@@ -22,11 +21,7 @@ enum Field {
 }
 
 /// The code of an operation, and its fields.
-#[derive(Clone, Copy, Debug)]
-struct Shape {
-    code: u8,
-    fields: &'static [Field],
-}
+type Shape = (u8, &'static [Field]);
 
 const INODE: &[Field] = &[Field::Long];
 
@@ -44,32 +39,28 @@ const ENTRY: &[Field] = &[
     Field::Middle,
 ];
 
-/// The shape of the operation that a word names.
-fn shape_of(word: &str) -> Option<Shape> {
-    let (code, fields): (u8, &'static [Field]) = match word {
-        "lookup" => (1, INODE_AND_NAME),
-        "getattr" => (2, INODE),
-        "chmod" => (3, &[Field::Long, Field::Mode]),
-        "chown" => (4, &[Field::Long, Field::Middle, Field::Middle]),
-        "utimes" => (5, PLACE_AND_NUMBER),
-        "truncate" => (6, PLACE_AND_NUMBER),
-        "mkdir" => (7, ENTRY),
-        "create" => (8, ENTRY),
-        "readlink" => (14, INODE),
-        "open" => (15, INODE),
-        "release" => (16, INODE),
-        "read" => (17, &[Field::Long, Field::Long, Field::Middle]),
-        "write" => (18, &[Field::Long, Field::Long, Field::Data]),
-        "readdir" => (20, PAGE),
-        "statfs" => (21, &[]),
-        "flushcache" => (29, &[]),
-        "getxattr" => (23, INODE_AND_NAME),
-        "listxattr" => (24, PAGE),
-        "leave" => (32, &[]),
-        _ => return None,
-    };
-    Some(Shape { code, fields })
-}
+/// The shapes of operations, by the words that name them.
+const SHAPES: &[(&str, Shape)] = &[
+    ("lookup", (1, INODE_AND_NAME)),
+    ("getattr", (2, INODE)),
+    ("chmod", (3, &[Field::Long, Field::Mode])),
+    ("chown", (4, &[Field::Long, Field::Middle, Field::Middle])),
+    ("utimes", (5, PLACE_AND_NUMBER)),
+    ("truncate", (6, PLACE_AND_NUMBER)),
+    ("mkdir", (7, ENTRY)),
+    ("create", (8, ENTRY)),
+    ("readlink", (14, INODE)),
+    ("open", (15, INODE)),
+    ("release", (16, INODE)),
+    ("read", (17, &[Field::Long, Field::Long, Field::Middle])),
+    ("write", (18, &[Field::Long, Field::Long, Field::Data])),
+    ("readdir", (20, PAGE)),
+    ("statfs", (21, &[])),
+    ("getxattr", (23, INODE_AND_NAME)),
+    ("listxattr", (24, PAGE)),
+    ("flushcache", (29, &[])),
+    ("leave", (32, &[])),
+];
 
 fn put_long(frame: &mut Vec<u8>, word: &str) -> Result<(), AllocError> {
     match word.parse::<u64>() {
@@ -99,7 +90,7 @@ fn put_mode(frame: &mut Vec<u8>, word: &str) -> Result<(), AllocError> {
     }
 }
 
-fn put_name(alloc: Global, frame: &mut Vec<u8>, word: &str) -> io::Result<()> {
+fn put_name(alloc: Global, frame: &mut Vec<u8>, word: &str) -> Result<(), AllocError> {
     if let Some(bytes) = bytes_of(alloc, word)? {
         if let Ok(length) = u16::try_from(bytes.len()) {
             frame.extend_from_slice(&length.to_be_bytes())?;
@@ -120,7 +111,7 @@ fn put_counted(frame: &mut Vec<u8>, bytes: &[u8]) -> Result<(), AllocError> {
     }
 }
 
-fn put_data(alloc: Global, frame: &mut Vec<u8>, word: &str) -> io::Result<()> {
+fn put_data(alloc: Global, frame: &mut Vec<u8>, word: &str) -> Result<(), AllocError> {
     if let Some(bytes) = bytes_of(alloc, word)? {
         put_counted(frame, &bytes)?;
     }
@@ -128,45 +119,47 @@ fn put_data(alloc: Global, frame: &mut Vec<u8>, word: &str) -> io::Result<()> {
 }
 
 /// Adds what a word says of a field. A word that says nothing adds nothing, and then no frame is made.
-fn put_field(alloc: Global, frame: &mut Vec<u8>, field: Field, word: &str) -> io::Result<()> {
-    match field {
-        Field::Long => put_long(frame, word)?,
-        Field::Middle => put_middle(frame, word)?,
-        Field::Short => put_short(frame, word)?,
-        Field::Mode => put_mode(frame, word)?,
-        Field::Name => put_name(alloc, frame, word)?,
-        Field::Data => put_data(alloc, frame, word)?,
+fn put_field(
+    alloc: Global,
+    frame: &mut Vec<u8>,
+    field: Field,
+    word: &str,
+) -> Result<(), AllocError> {
+    if word.is_empty() {
+        return Ok(());
     }
-    Ok(())
+    match field {
+        Field::Long => put_long(frame, word),
+        Field::Middle => put_middle(frame, word),
+        Field::Short => put_short(frame, word),
+        Field::Mode => put_mode(frame, word),
+        Field::Name => put_name(alloc, frame, word),
+        Field::Data => put_data(alloc, frame, word),
+    }
 }
 
 /// The kind of a frame that has a call.
 const CALL: u8 = 1;
 
 /// What stands behind the length of the frame of a call: a pass, a time, and the words of an operation.
-fn body_of(alloc: Global, text: &str) -> io::Result<Vec<u8>> {
+fn body_of(alloc: Global, text: &str) -> Result<Vec<u8>, AllocError> {
+    let words = Words::of(alloc, text)?;
     let mut body = Vec::new(alloc);
-    let mut words = text.split_whitespace();
-    let (Some(pass), Some(now), Some(word)) = (words.next(), words.next(), words.next()) else {
-        return Ok(body);
-    };
-    let Some(shape) = shape_of(word) else {
+    let Some((code, fields)) = named(SHAPES, words.at(2)) else {
         return Ok(body);
     };
     body.push(CALL)?;
-    put_long(&mut body, pass)?;
-    put_long(&mut body, now)?;
-    body.push(shape.code)?;
-    for field in shape.fields {
-        if let Some(word) = words.next() {
-            put_field(alloc, &mut body, *field, word)?;
-        }
+    put_long(&mut body, words.at(0))?;
+    put_long(&mut body, words.at(1))?;
+    body.push(code)?;
+    for (place, field) in fields.iter().enumerate() {
+        put_field(alloc, &mut body, *field, words.at(place + 3))?;
     }
     Ok(body)
 }
 
 /// The frame of a call. Words that are no call make bytes that are no frame.
-pub fn frame_of(alloc: Global, text: &str) -> io::Result<Vec<u8>> {
+pub fn frame_of(alloc: Global, text: &str) -> Result<Vec<u8>, AllocError> {
     let body = body_of(alloc, text)?;
     let mut frame = Vec::new(alloc);
     put_counted(&mut frame, &body)?;

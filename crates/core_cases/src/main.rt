@@ -8,29 +8,51 @@ mod replies;
 mod serving;
 
 use crate::serving::{Served, step};
+use case_words::{Case, add_outcome, case_of, line_for, numbers_of};
 use mem_keeper::MemKeeper;
-use std::alloc::Global;
+use s3_base::NumberList;
+use std::alloc::{AllocError, Global};
 use std::io;
 
-/// The line that is printed for a case.
-fn answer(alloc: Global, line: &str) -> io::Result<String> {
-    let Some((name, rest)) = line.split_once('|') else {
-        return Ok(format!(in alloc; "no case")?);
-    };
-    let Some((fails, steps)) = rest.split_once('|') else {
-        return Ok(format!(in alloc; "no case")?);
-    };
-    let keeper = MemKeeper::with_fails(alloc, case_words::numbers_of(alloc, fails)?);
-    let mut served = Served::Shut(keeper);
-    let mut printed = format!(in alloc; "{name}:")?;
+/// Takes steps, and adds what comes of each to the line that is printed.
+fn take_steps(
+    alloc: Global,
+    served: &mut Served,
+    steps: &str,
+    printed: &mut String,
+) -> Result<(), AllocError> {
     for text in steps.split(';') {
-        let (next, outcome) = step(alloc, served, text)?;
-        served = next;
-        printed.push(' ')?;
-        printed.push_str(outcome.as_str())?;
-        printed.push(';')?;
+        add_outcome(printed, step(alloc, served, text)?.as_str())?;
     }
+    Ok(())
+}
+
+/// The same over an empty keeper, of which the listed calls fail. It goes at the one end of this function: a proof goes through all
+/// its parts at each end.
+fn begin(
+    alloc: Global,
+    fails: NumberList,
+    steps: &str,
+    printed: &mut String,
+) -> Result<(), AllocError> {
+    let mut served = Served::Shut(MemKeeper::with_fails(alloc, fails));
+    take_steps(alloc, &mut served, steps, printed)
+}
+
+/// The line that is printed for a case.
+fn answered(alloc: Global, case: &Case<'_>) -> Result<String, AllocError> {
+    let fails = numbers_of(alloc, case.fails)?;
+    let mut printed = line_for(alloc, case)?;
+    begin(alloc, fails, case.steps, &mut printed)?;
     Ok(printed)
+}
+
+/// The line that is printed for a line.
+fn answer(alloc: Global, line: &str) -> Result<String, AllocError> {
+    match case_of(line) {
+        Some(case) => answered(alloc, &case),
+        None => String::from_str(alloc, "no case"),
+    }
 }
 
 fn main(rt: HostRuntime) -> io::Result<()> {

@@ -1,14 +1,13 @@
 //! Steps before a core is opened: what is changed in the keeper, and what is counted there.
 ghost use Rattle.s3_rows.specs.Rows.{IsText};
 
-use case_words::bytes_of;
+use case_words::{bytes_of, named, verb_of};
 use mem_keeper::MemKeeper;
 use op_checks::check_attribute_name;
 use ref_counts::name_up;
 use s3_base::ByteList;
 use s3_rows::{Batch, Change, Keeper, KeeperFault, Params, State, made_batch};
-use std::alloc::Global;
-use std::io;
+use std::alloc::{AllocError, Global};
 
 /// The size of a block in bytes, the slots of the cache disk, and the time of the making.
 const BLOCK_SIZE: u32 = 4096;
@@ -17,6 +16,12 @@ const SLOTS: u32 = 8;
 
 const MADE_AT: u64 = 0;
 
+const STATES: &[(&str, State)] = &[
+    ("clean", State::Clean),
+    ("mounted", State::Mounted),
+    ("restored", State::Restored),
+];
+
 fn commit(keeper: &mut MemKeeper, batch: &Batch) -> &'static str {
     match keeper.commit(batch) {
         Ok(()) => "committed",
@@ -24,18 +29,13 @@ fn commit(keeper: &mut MemKeeper, batch: &Batch) -> &'static str {
     }
 }
 
-fn state_of(word: &str) -> Option<State> {
-    match word {
-        "clean" => Some(State::Clean),
-        "mounted" => Some(State::Mounted),
-        "restored" => Some(State::Restored),
-        _ => None,
-    }
-}
-
 /// Commits that the file system is in a state.
-fn put_state(alloc: Global, keeper: &mut MemKeeper, word: &str) -> io::Result<&'static str> {
-    let Some(state) = state_of(word) else {
+fn put_state(
+    alloc: Global,
+    keeper: &mut MemKeeper,
+    word: &str,
+) -> Result<&'static str, AllocError> {
+    let Some(state) = named(STATES, word) else {
         return Ok("no state");
     };
     let Ok(Some(params)) = keeper.params() else {
@@ -58,39 +58,38 @@ fn used(
 }
 
 /// The id of one more use of a name in an empty batch, and how many changes say so.
-fn use_name(alloc: Global, keeper: &mut MemKeeper, word: &str) -> io::Result<String> {
+fn use_name(alloc: Global, keeper: &mut MemKeeper, word: &str) -> Result<String, AllocError> {
     let Some(bytes) = bytes_of(alloc, word)? else {
-        return Ok(format!(in alloc; "no name")?);
+        return String::from_str(alloc, "no name");
     };
     let name = ByteList::from(bytes);
     if check_attribute_name(&name).is_err() {
-        return Ok(format!(in alloc; "no name")?);
+        return String::from_str(alloc, "no name");
     }
     let mut batch = Batch::new(alloc);
     match used(keeper, &mut batch, &name) {
         Ok(Some(id)) => {
             let changes = batch.as_slice().len();
-            Ok(format!(in alloc; "name {id} changes {changes}")?)
+            format!(in alloc; "name {id} changes {changes}")
         }
-        Ok(None) => Ok(format!(in alloc; "worn")?),
-        Err(_) => Ok(format!(in alloc; "fault")?),
+        Ok(None) => String::from_str(alloc, "worn"),
+        Err(_) => String::from_str(alloc, "fault"),
     }
 }
 
+/// Commits the tables of a new file system.
+fn make(alloc: Global, keeper: &mut MemKeeper) -> Result<&'static str, AllocError> {
+    let batch = made_batch(alloc, BLOCK_SIZE, SLOTS, MADE_AT)?;
+    Ok(commit(keeper, &batch))
+}
+
 /// What comes of a step: `make`, `state` with its word, or `use` with a name.
-pub fn prepare(alloc: Global, keeper: &mut MemKeeper, text: &str) -> io::Result<String> {
-    let mut words = text.split_whitespace();
-    match (words.next(), words.next()) {
-        (Some("make"), None) => {
-            let batch = made_batch(alloc, BLOCK_SIZE, SLOTS, MADE_AT)?;
-            let outcome = commit(keeper, &batch);
-            Ok(format!(in alloc; "{outcome}")?)
-        }
-        (Some("state"), Some(word)) => {
-            let outcome = put_state(alloc, keeper, word)?;
-            Ok(format!(in alloc; "{outcome}")?)
-        }
-        (Some("use"), Some(word)) => use_name(alloc, keeper, word),
-        _ => Ok(format!(in alloc; "not mounted")?),
+pub fn prepare(alloc: Global, keeper: &mut MemKeeper, text: &str) -> Result<String, AllocError> {
+    let (verb, word) = verb_of(text);
+    match verb {
+        "make" => String::from_str(alloc, make(alloc, keeper)?),
+        "state" => String::from_str(alloc, put_state(alloc, keeper, word)?),
+        "use" => use_name(alloc, keeper, word),
+        _ => String::from_str(alloc, "not mounted"),
     }
 }

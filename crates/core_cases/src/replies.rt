@@ -1,115 +1,107 @@
 //! Replies in words.
 
+use case_words::{add_numbers, kind_word, numbers_behind};
 use op_frames::{Attr, Cause, DirEntry, Reply};
-use s3_base::{ByteList, Kind};
-use std::alloc::Global;
-use std::io;
-
-fn kind_word(kind: Kind) -> &'static str {
-    match kind {
-        Kind::Directory => "directory",
-        Kind::Regular => "file",
-        Kind::Link => "link",
-    }
-}
+use s3_base::ByteList;
+use std::alloc::{AllocError, Global};
 
 /// The inode, its kind, its mode in octal, the user, the group, how many links and bytes it has, and its two times.
-fn attr_text(alloc: Global, attr: &Attr) -> io::Result<String> {
-    let Attr {
-        inode,
-        kind,
-        mode,
-        uid,
-        gid,
-        links,
-        size,
-        mtime,
-        ctime,
-        locked,
-    } = *attr;
-    let kind = kind_word(kind);
-    let lock = if locked { " locked" } else { "" };
-    Ok(format!(in alloc;
-        "{inode} {kind} {mode:o} {uid} {gid} {links} {size} {mtime} {ctime}{lock}"
-    )?)
+fn attr_text(alloc: Global, attr: &Attr) -> Result<String, AllocError> {
+    let (inode, kind, mode) = (attr.inode, kind_word(attr.kind), attr.mode);
+    let numbers = [
+        attr.uid as u64,
+        attr.gid as u64,
+        attr.links,
+        attr.size,
+        attr.mtime,
+        attr.ctime,
+    ];
+    let mut text = format!(in alloc; "attr {inode} {kind} {mode:o}")?;
+    add_numbers(&mut text, &numbers)?;
+    if attr.locked {
+        text.push_str(" locked")?;
+    }
+    Ok(text)
 }
 
-fn bytes_text(alloc: Global, bytes: &[u8]) -> io::Result<String> {
+fn opened_text(alloc: Global, handle: u64, attr: &Attr) -> Result<String, AllocError> {
+    let mut text = numbers_behind(alloc, "opened", &[handle])?;
+    text.push(' ')?;
+    text.push_str(attr_text(alloc, attr)?.as_str())?;
+    Ok(text)
+}
+
+fn bytes_text(alloc: Global, bytes: &[u8]) -> Result<String, AllocError> {
     if bytes.is_empty() {
-        return Ok(format!(in alloc; "no bytes")?);
+        return String::from_str(alloc, "no bytes");
     }
-    let digits = hex::encode(alloc, bytes)?;
-    Ok(format!(in alloc; "bytes {digits}")?)
+    let mut text = String::from_str(alloc, "bytes ")?;
+    text.push_str(hex::encode(alloc, bytes)?.as_str())?;
+    Ok(text)
 }
 
-/// Entries of a directory: inode, kind and name of each.
-fn entries_text(alloc: Global, entries: &[DirEntry]) -> io::Result<String> {
+/// The inode, kind and name of an entry.
+fn entry_text(alloc: Global, entry: &DirEntry) -> Result<String, AllocError> {
+    let (inode, kind) = (entry.inode, kind_word(entry.kind));
+    let mut text = format!(in alloc; " {inode} {kind} ")?;
+    text.push_str(hex::encode(alloc, entry.name.as_slice())?.as_str())?;
+    Ok(text)
+}
+
+fn entries_text(alloc: Global, entries: &[DirEntry]) -> Result<String, AllocError> {
     if entries.is_empty() {
-        return Ok(format!(in alloc; "no entries")?);
+        return String::from_str(alloc, "no entries");
     }
-    let mut text = format!(in alloc; "entries")?;
+    let mut text = String::from_str(alloc, "entries")?;
     for entry in entries {
-        let inode = entry.inode;
-        let kind = kind_word(entry.kind);
-        let name = hex::encode(alloc, entry.name.as_slice())?;
-        let one = format!(in alloc; " {inode} {kind} {name}")?;
-        text.push_str(&one)?;
+        text.push_str(entry_text(alloc, entry)?.as_str())?;
     }
     Ok(text)
 }
 
-fn names_text(alloc: Global, names: &[ByteList]) -> io::Result<String> {
+fn names_text(alloc: Global, names: &[ByteList]) -> Result<String, AllocError> {
     if names.is_empty() {
-        return Ok(format!(in alloc; "no names")?);
+        return String::from_str(alloc, "no names");
     }
-    let mut text = format!(in alloc; "names")?;
+    let mut text = String::from_str(alloc, "names")?;
     for name in names {
-        let digits = hex::encode(alloc, name.as_slice())?;
-        let one = format!(in alloc; " {digits}")?;
-        text.push_str(&one)?;
+        text.push(' ')?;
+        text.push_str(hex::encode(alloc, name.as_slice())?.as_str())?;
     }
     Ok(text)
 }
 
-fn cause_word(cause: Cause) -> &'static str {
+fn fault_word(cause: Cause) -> &'static str {
     match cause {
-        Cause::Link => "link",
-        Cause::Keeper => "keeper",
-        Cause::Disk => "disk",
-        Cause::Memory => "memory",
+        Cause::Link => "fault link",
+        Cause::Keeper => "fault keeper",
+        Cause::Disk => "fault disk",
+        Cause::Memory => "fault memory",
     }
 }
 
 /// A reply in words.
-pub fn reply_text(alloc: Global, reply: &Reply) -> io::Result<String> {
+pub fn reply_text(alloc: Global, reply: &Reply) -> Result<String, AllocError> {
     match reply {
-        Reply::Done => Ok(format!(in alloc; "done")?),
-        Reply::Attr(attr) => {
-            let text = attr_text(alloc, attr)?;
-            Ok(format!(in alloc; "attr {text}")?)
-        }
-        Reply::Opened { handle, attr } => {
-            let text = attr_text(alloc, attr)?;
-            Ok(format!(in alloc; "opened {handle} attr {text}")?)
-        }
+        Reply::Done => String::from_str(alloc, "done"),
+        Reply::Attr(attr) => attr_text(alloc, attr),
+        Reply::Opened { handle, attr } => opened_text(alloc, *handle, attr),
         Reply::Bytes(bytes) => bytes_text(alloc, bytes.as_slice()),
-        Reply::Count(count) => Ok(format!(in alloc; "count {count}")?),
+        Reply::Count(count) => numbers_behind(alloc, "count", &[*count as u64]),
         Reply::Stat {
             block_size,
             inodes,
             entries,
             bytes,
-        } => Ok(format!(in alloc; "stat {block_size} {inodes} {entries} {bytes}")?),
-        Reply::Errno(errno) => {
-            let number = errno.0;
-            Ok(format!(in alloc; "errno {number}")?)
-        }
-        Reply::Fault(cause) => {
-            let word = cause_word(*cause);
-            Ok(format!(in alloc; "fault {word}")?)
-        }
+        } => numbers_behind(
+            alloc,
+            "stat",
+            &[*block_size as u64, *inodes, *entries, *bytes],
+        ),
+        Reply::Errno(errno) => numbers_behind(alloc, "errno", &[errno.0 as u64]),
+        Reply::Fault(cause) => String::from_str(alloc, fault_word(*cause)),
         Reply::Entries(entries) => entries_text(alloc, entries.as_slice()),
         Reply::Names(names) => names_text(alloc, names.as_slice()),
-        Reply::Lost { .. } => Ok(format!(in alloc; "a reply without words")?),
+        Reply::Lost { .. } => String::from_str(alloc, "a reply without words"),
     }
 }

@@ -7,8 +7,8 @@ use crate::preparing::prepare;
 use crate::replies::reply_text;
 use mem_keeper::MemKeeper;
 use op_frames::{Op, Reply, Step, decode_call};
-use std::alloc::Global;
-use std::io;
+use std::alloc::{AllocError, Global};
+use std::mem;
 use volume_core::{OpenFault, RowCore};
 
 /// The keeper of a case, until a core is opened over it.
@@ -44,28 +44,25 @@ fn answered(core: &mut RowCore<MemKeeper>, pass: u64, op: &Op, now: u64) -> Repl
 }
 
 /// The reply to a call in words.
-fn call(alloc: Global, core: &mut RowCore<MemKeeper>, text: &str) -> io::Result<String> {
+fn call(alloc: Global, core: &mut RowCore<MemKeeper>, text: &str) -> Result<String, AllocError> {
     let frame = frame_of(alloc, text)?;
     match decode_call(alloc, &frame) {
         Ok((Step::Call { pass, now, op }, _)) => reply_text(alloc, &answered(core, pass, &op, now)),
-        _ => Ok(format!(in alloc; "no call")?),
+        _ => String::from_str(alloc, "no call"),
     }
 }
 
 /// Takes a step, and says what comes of it.
-pub fn step(alloc: Global, served: Served, text: &str) -> io::Result<(Served, String)> {
+pub fn step(alloc: Global, served: &mut Served, text: &str) -> Result<String, AllocError> {
     match served {
-        Served::Open(mut core) => {
-            let outcome = call(alloc, &mut core, text)?;
-            Ok((Served::Open(core), outcome))
-        }
-        Served::Shut(mut keeper) => {
-            if text.split_whitespace().next() == Some("mount") {
-                let (next, outcome) = mount(alloc, keeper);
-                return Ok((next, format!(in alloc; "{outcome}")?));
+        Served::Open(core) => call(alloc, core, text),
+        Served::Shut(keeper) => {
+            if text.trim_ascii() != "mount" {
+                return prepare(alloc, keeper, text);
             }
-            let outcome = prepare(alloc, &mut keeper, text)?;
-            Ok((Served::Shut(keeper), outcome))
+            let (next, outcome) = mount(alloc, mem::replace(keeper, MemKeeper::new(alloc)));
+            *served = next;
+            String::from_str(alloc, outcome)
         }
     }
 }

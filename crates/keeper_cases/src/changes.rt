@@ -1,183 +1,215 @@
 //! Batches of changes, from words.
 
-use crate::fields::{self, Words};
+use crate::fields::Fields;
+use case_words::{named, verb_of};
 use s3_rows::{
     AttrRow, Batch, BlockRow, Change, ContentRow, InodeBlockRow, InodeRow, NameRow, ObjectRow,
-    Params, SlotRow, TargetRow,
+    Params, SlotRow, TableName, TargetRow,
 };
-use std::alloc::Global;
-use std::io;
+use std::alloc::{AllocError, Global};
 
-fn inode_row(words: &Words<'_>) -> Option<InodeRow> {
-    Some(InodeRow {
-        id: fields::id(words[0])?,
-        kind: fields::kind(words[1])?,
-        mode: fields::mode(words[2])?,
-        uid: fields::middle(words[3])?,
-        gid: fields::middle(words[4])?,
-        mtime: fields::count(words[5])?,
-        ctime: fields::count(words[6])?,
-        refcount: fields::count(words[7])?,
-        size: fields::file_size(words[8])?,
-        locked: words[9] == Some("locked"),
-    })
+/// The tables, by the word for one of their rows.
+const TABLES: &[(&str, TableName)] = &[
+    ("inode", TableName::Inodes),
+    ("name", TableName::Names),
+    ("content", TableName::Contents),
+    ("inode_block", TableName::InodeBlocks),
+    ("block", TableName::Blocks),
+    ("object", TableName::Objects),
+    ("target", TableName::Targets),
+    ("attr", TableName::Attrs),
+    ("slot", TableName::Slots),
+];
+
+fn inode_row(fields: &mut Fields) -> InodeRow {
+    InodeRow {
+        id: fields.id(0),
+        kind: fields.kind(1),
+        mode: fields.mode(2),
+        uid: fields.middle(3),
+        gid: fields.middle(4),
+        mtime: fields.count(5),
+        ctime: fields.count(6),
+        refcount: fields.count(7),
+        size: fields.file_size(8),
+        locked: fields.word(9) == "locked",
+    }
 }
 
-fn content_row(words: &Words<'_>) -> Option<ContentRow> {
-    Some(ContentRow {
-        parent: fields::id(words[0])?,
-        name_id: fields::id(words[1])?,
-        inode: fields::id(words[2])?,
-    })
+fn content_row(fields: &mut Fields) -> ContentRow {
+    ContentRow {
+        parent: fields.id(0),
+        name_id: fields.id(1),
+        inode: fields.id(2),
+    }
 }
 
-fn inode_block_row(words: &Words<'_>) -> Option<InodeBlockRow> {
-    Some(InodeBlockRow {
-        inode: fields::id(words[0])?,
-        blockno: fields::block_number(words[1])?,
-        block: fields::id(words[2])?,
-    })
+fn inode_block_row(fields: &mut Fields) -> InodeBlockRow {
+    InodeBlockRow {
+        inode: fields.id(0),
+        blockno: fields.block_number(1),
+        block: fields.id(2),
+    }
 }
 
-fn block_row(words: &Words<'_>) -> Option<BlockRow> {
-    Some(BlockRow {
-        id: fields::id(words[0])?,
-        digest: fields::digest(words[1])?,
-        refcount: fields::count(words[2])?,
-        size: fields::block_size(words[3])?,
-        object: fields::id(words[4])?,
-    })
+fn block_row(fields: &mut Fields) -> BlockRow {
+    BlockRow {
+        id: fields.id(0),
+        digest: fields.digest(1),
+        refcount: fields.count(2),
+        size: fields.block_size(3),
+        object: fields.id(4),
+    }
 }
 
 /// An object with its size.
-fn object_row(words: &Words<'_>) -> Option<ObjectRow> {
-    Some(ObjectRow {
-        id: fields::id(words[0])?,
-        refcount: fields::count(words[1])?,
-        size: Some(fields::block_size(words[2])?),
-    })
+fn object_row(fields: &mut Fields) -> ObjectRow {
+    ObjectRow {
+        id: fields.id(0),
+        refcount: fields.count(1),
+        size: Some(fields.block_size(2)),
+    }
 }
 
-fn slot_row(words: &Words<'_>) -> Option<SlotRow> {
-    Some(SlotRow {
-        slot: fields::up_to(65_535, words[0])?,
-        inode: fields::id(words[1])?,
-        blockno: fields::block_number(words[2])?,
-        version: fields::next_number(words[3])?,
-        len: fields::up_to(10_485_760, words[4])?,
-    })
+fn slot_row(fields: &mut Fields) -> SlotRow {
+    SlotRow {
+        slot: fields.up_to(0, 65_535),
+        inode: fields.id(1),
+        blockno: fields.block_number(2),
+        version: fields.next_number(3),
+        len: fields.up_to(4, 10_485_760),
+    }
 }
 
 /// The parameters of a file system.
-pub fn params_of(words: &Words<'_>) -> Option<Params> {
-    let block_size = fields::middle(words[1])?;
-    let slots = fields::up_to(65_536, words[2])?;
-    if words[0] != Some("1") || block_size < 4096 || block_size > 10_485_760 {
+pub fn params_of(fields: &mut Fields) -> Option<Params> {
+    let (block_size, slots) = (fields.up_to(1, 10_485_760), fields.up_to(2, 65_536));
+    let (generation, last_done) = (fields.count(8), fields.count(9));
+    if fields.number(0) != 1 || block_size < 4096 || last_done > generation {
         return None;
     }
-    let generation = fields::count(words[8])?;
-    let last_done = fields::count(words[9])?;
-    if slots as u64 * block_size as u64 > 1 << 32 || last_done > generation {
+    if slots as u64 * block_size as u64 > 1 << 32 {
         return None;
     }
     Some(Params {
         revision: 1,
         block_size,
         slots,
-        state: fields::state(words[3])?,
-        next_inode: fields::next_number(words[4])?,
-        next_name: fields::next_number(words[5])?,
-        next_block: fields::next_number(words[6])?,
-        next_object: fields::next_number(words[7])?,
+        state: fields.state(3),
+        next_inode: fields.next_number(4),
+        next_name: fields.next_number(5),
+        next_block: fields.next_number(6),
+        next_object: fields.next_number(7),
         generation,
         last_done,
     })
 }
 
 /// A name with its id and its count.
-pub fn name_row(alloc: Global, words: &Words<'_>) -> io::Result<Option<NameRow>> {
-    let (Some(id), Some(refcount)) = (fields::id(words[0]), fields::count(words[1])) else {
-        return Ok(None);
-    };
-    let Some(name) = fields::text(alloc, 255, words[2])? else {
-        return Ok(None);
-    };
-    Ok(Some(NameRow { id, refcount, name }))
+pub fn name_row(alloc: Global, fields: &mut Fields) -> Result<Option<NameRow>, AllocError> {
+    let (id, refcount) = (fields.id(0), fields.count(1));
+    match fields.text(alloc, 2, 255)? {
+        Some(name) => Ok(Some(NameRow { id, refcount, name })),
+        None => Ok(None),
+    }
 }
 
-fn target_row(alloc: Global, words: &Words<'_>) -> io::Result<Option<TargetRow>> {
-    let Some(inode) = fields::id(words[0]) else {
-        return Ok(None);
-    };
-    let Some(target) = fields::text(alloc, 4095, words[1])? else {
-        return Ok(None);
-    };
-    Ok(Some(TargetRow { inode, target }))
+fn put_name(alloc: Global, fields: &mut Fields) -> Result<Option<Change>, AllocError> {
+    match name_row(alloc, fields)? {
+        Some(row) => Ok(Some(Change::PutName(row))),
+        None => Ok(None),
+    }
 }
 
-fn attr_row(alloc: Global, words: &Words<'_>) -> io::Result<Option<AttrRow>> {
-    let (Some(inode), Some(name_id)) = (fields::id(words[0]), fields::id(words[1])) else {
-        return Ok(None);
-    };
-    let Some(value) = fields::value(alloc, words[2])? else {
-        return Ok(None);
-    };
-    Ok(Some(AttrRow {
-        inode,
-        name_id,
-        value,
-    }))
+fn put_target(alloc: Global, fields: &mut Fields) -> Result<Option<Change>, AllocError> {
+    let inode = fields.id(0);
+    match fields.text(alloc, 1, 4095)? {
+        Some(target) => Ok(Some(Change::PutTarget(TargetRow { inode, target }))),
+        None => Ok(None),
+    }
+}
+
+fn put_attr(alloc: Global, fields: &mut Fields) -> Result<Option<Change>, AllocError> {
+    let (inode, name_id) = (fields.id(0), fields.id(1));
+    match fields.value(alloc, 2)? {
+        Some(value) => Ok(Some(Change::PutAttr(AttrRow {
+            inode,
+            name_id,
+            value,
+        }))),
+        None => Ok(None),
+    }
 }
 
 /// A row that is put.
-fn put(alloc: Global, table: &str, words: &Words<'_>) -> io::Result<Option<Change>> {
+fn put(alloc: Global, table: TableName, fields: &mut Fields) -> Result<Option<Change>, AllocError> {
     match table {
-        "params" => Ok(params_of(words).map(Change::SetParams)),
-        "inode" => Ok(inode_row(words).map(Change::PutInode)),
-        "name" => Ok(name_row(alloc, words)?.map(Change::PutName)),
-        "content" => Ok(content_row(words).map(Change::PutContent)),
-        "inode_block" => Ok(inode_block_row(words).map(Change::PutInodeBlock)),
-        "block" => Ok(block_row(words).map(Change::PutBlock)),
-        "object" => Ok(object_row(words).map(Change::PutObject)),
-        "target" => Ok(target_row(alloc, words)?.map(Change::PutTarget)),
-        "attr" => Ok(attr_row(alloc, words)?.map(Change::PutAttr)),
-        "slot" => Ok(slot_row(words).map(Change::PutSlot)),
-        _ => Ok(None),
+        TableName::Inodes => Ok(Some(Change::PutInode(inode_row(fields)))),
+        TableName::Names => put_name(alloc, fields),
+        TableName::Contents => Ok(Some(Change::PutContent(content_row(fields)))),
+        TableName::InodeBlocks => Ok(Some(Change::PutInodeBlock(inode_block_row(fields)))),
+        TableName::Blocks => Ok(Some(Change::PutBlock(block_row(fields)))),
+        TableName::Objects => Ok(Some(Change::PutObject(object_row(fields)))),
+        TableName::Targets => put_target(alloc, fields),
+        TableName::Attrs => put_attr(alloc, fields),
+        TableName::Slots => Ok(Some(Change::PutSlot(slot_row(fields)))),
     }
 }
 
 /// A row that is deleted by its key.
-fn delete(table: &str, words: &Words<'_>) -> Option<Change> {
-    let key = fields::number(words[0])?;
+fn delete(table: TableName, fields: &mut Fields) -> Change {
     match table {
-        "inode" => Some(Change::DeleteInode(key)),
-        "name" => Some(Change::DeleteName(key)),
-        "content" => Some(Change::DeleteContent(key, fields::number(words[1])?)),
-        "inode_block" => Some(Change::DeleteInodeBlock(key, fields::number(words[1])?)),
-        "block" => Some(Change::DeleteBlock(key)),
-        "object" => Some(Change::DeleteObject(key)),
-        "target" => Some(Change::DeleteTarget(key)),
-        "attr" => Some(Change::DeleteAttr(key, fields::number(words[1])?)),
-        "slot" => Some(Change::DeleteSlot(fields::middle(words[0])?)),
-        _ => None,
+        TableName::Inodes => Change::DeleteInode(fields.number(0)),
+        TableName::Names => Change::DeleteName(fields.number(0)),
+        TableName::Contents => Change::DeleteContent(fields.number(0), fields.number(1)),
+        TableName::InodeBlocks => Change::DeleteInodeBlock(fields.number(0), fields.number(1)),
+        TableName::Blocks => Change::DeleteBlock(fields.number(0)),
+        TableName::Objects => Change::DeleteObject(fields.number(0)),
+        TableName::Targets => Change::DeleteTarget(fields.number(0)),
+        TableName::Attrs => Change::DeleteAttr(fields.number(0), fields.number(1)),
+        TableName::Slots => Change::DeleteSlot(fields.middle(0)),
     }
 }
 
-fn change_of(alloc: Global, text: &str) -> io::Result<Option<Change>> {
-    let mut words = text.split_whitespace();
-    let (Some(verb), Some(table)) = (words.next(), words.next()) else {
-        return Ok(None);
-    };
-    let words = fields::words_of(words);
-    match verb {
-        "put" => put(alloc, table, &words),
-        "delete" => Ok(delete(table, &words)),
-        _ => Ok(None),
+/// What `put` does to the row of the fields.
+fn put_named(alloc: Global, name: &str, fields: &mut Fields) -> Result<Option<Change>, AllocError> {
+    if name == "params" {
+        return Ok(params_of(fields).map(Change::SetParams));
     }
+    match named(TABLES, name) {
+        Some(table) => put(alloc, table, fields),
+        None => Ok(None),
+    }
+}
+
+/// What `delete` does to the row of the fields.
+fn delete_named(name: &str, fields: &mut Fields) -> Option<Change> {
+    Some(delete(named(TABLES, name)?, fields))
+}
+
+/// What a verb does to the row that the words behind it name.
+fn row_change(alloc: Global, verb: &str, row: &str) -> Result<Option<Change>, AllocError> {
+    let (name, rest) = verb_of(row);
+    let mut fields = Fields::of(alloc, rest)?;
+    let change = match verb {
+        "put" => put_named(alloc, name, &mut fields)?,
+        "delete" => delete_named(name, &mut fields),
+        _ => None,
+    };
+    if fields.is_bad() {
+        Ok(None)
+    } else {
+        Ok(change)
+    }
+}
+
+fn change_of(alloc: Global, text: &str) -> Result<Option<Change>, AllocError> {
+    let (verb, row) = verb_of(text);
+    row_change(alloc, verb, row)
 }
 
 /// The batch of the changes that a text has, with commas between; `nothing` is a batch without changes.
-pub fn batch_of(alloc: Global, text: &str) -> io::Result<Option<Batch>> {
+pub fn batch_of(alloc: Global, text: &str) -> Result<Option<Batch>, AllocError> {
     let mut batch = Batch::new(alloc);
     if text == "nothing" {
         return Ok(Some(batch));

@@ -1,12 +1,11 @@
 //! A keeper of given tables.
 
 use crate::changes::{name_row, params_of};
-use crate::fields::words_of;
+use crate::fields::Fields;
 use mem_keeper::MemKeeper;
 use s3_base::Sequence;
 use s3_rows::{NameRow, Params, Tables};
 use std::alloc::{AllocError, Global};
-use std::io;
 
 /// Tables with one name, and nothing else.
 fn tables_of(alloc: Global, params: Params, name: NameRow) -> Result<Tables, AllocError> {
@@ -26,16 +25,35 @@ fn tables_of(alloc: Global, params: Params, name: NameRow) -> Result<Tables, All
     })
 }
 
+/// The parameters that a text has.
+fn given_params(alloc: Global, text: &str) -> Result<Option<Params>, AllocError> {
+    let mut fields = Fields::of(alloc, text)?;
+    let params = params_of(&mut fields);
+    if fields.is_bad() {
+        Ok(None)
+    } else {
+        Ok(params)
+    }
+}
+
+/// The name that a text has.
+fn given_name(alloc: Global, text: &str) -> Result<Option<NameRow>, AllocError> {
+    let mut fields = Fields::of(alloc, text)?;
+    let name = name_row(alloc, &mut fields)?;
+    if fields.is_bad() { Ok(None) } else { Ok(name) }
+}
+
 /// A keeper of the parameters and the one name that a text has, with a comma between.
-pub fn keeper_of(alloc: Global, text: &str) -> io::Result<Option<MemKeeper>> {
+pub fn keeper_of(alloc: Global, text: &str) -> Result<Option<MemKeeper>, AllocError> {
     let Some((params, name)) = text.split_once(',') else {
         return Ok(None);
     };
-    let Some(params) = params_of(&words_of(params.split_whitespace())) else {
-        return Ok(None);
-    };
-    let Some(name) = name_row(alloc, &words_of(name.split_whitespace()))? else {
-        return Ok(None);
-    };
-    Ok(Some(MemKeeper::of(alloc, tables_of(alloc, params, name)?)))
+    let (params, name) = (given_params(alloc, params)?, given_name(alloc, name)?);
+    match (params, name) {
+        (Some(params), Some(name)) => {
+            let tables = tables_of(alloc, params, name)?;
+            Ok(Some(MemKeeper::of(alloc, tables)))
+        }
+        _ => Ok(None),
+    }
 }

@@ -2,237 +2,227 @@
 ghost use Rattle.std.specs.Prelude.{IsTrue, IfSome};
 ghost use Rattle.s3_rows.specs.Selections.{fits_key};
 
-use crate::fields::{self, Words, words_of};
-use crate::printing::{
-    attrs_text, entries_text, fault_word, numbers_text, params_text, row_text, rows_text,
-};
+use crate::fields::Fields;
+use crate::printing::{found_text, list_text};
+use case_words::{named, verb_of};
 use mem_keeper::MemKeeper;
-use s3_rows::{Keeper, KeeperFault, Row, RowKey, TableName};
-use std::alloc::Global;
-use std::io;
+use s3_rows::{Keeper, RowKey, TableName};
+use std::alloc::{AllocError, Global};
 
-fn fault_text(alloc: Global, fault: KeeperFault) -> io::Result<String> {
-    let word = fault_word(fault);
-    Ok(format!(in alloc; "{word}")?)
+/// The tables, by their names.
+const TABLES: &[(&str, TableName)] = &[
+    ("inodes", TableName::Inodes),
+    ("names", TableName::Names),
+    ("contents", TableName::Contents),
+    ("inode_blocks", TableName::InodeBlocks),
+    ("blocks", TableName::Blocks),
+    ("objects", TableName::Objects),
+    ("targets", TableName::Targets),
+    ("attrs", TableName::Attrs),
+    ("slots", TableName::Slots),
+];
+
+/// A look-up of a row by one number.
+#[derive(Clone, Copy)]
+enum ByOne {
+    Inode,
+    Name,
+    Holder,
+    Block,
+    Object,
+    Target,
 }
 
-/// What a look-up of one row answers.
-type Found = Result<Option<Row>, KeeperFault>;
-
-/// The row that a look-up finds by a key of one part, if this is such a look-up.
-fn row_of_one(keeper: &mut MemKeeper, verb: &str, words: &Words<'_>) -> Option<Found> {
-    let key = fields::number(words[0])?;
-    match verb {
-        "inode" => Some(keeper.inode(key).map(|found| found.map(Row::Inode))),
-        "name" => Some(keeper.name(key).map(|found| found.map(Row::Name))),
-        "holder" => Some(keeper.holder(key).map(|found| found.map(Row::Content))),
-        "block" => Some(keeper.block(key).map(|found| found.map(Row::Block))),
-        "object" => Some(keeper.object(key).map(|found| found.map(Row::Object))),
-        "target" => Some(keeper.target(key).map(|found| found.map(Row::Target))),
-        "block_by_digest" => {
-            let digest = fields::digest(words[0])?;
-            let found = keeper.block_by_digest(&digest);
-            Some(found.map(|found| found.map(Row::Block)))
-        }
-        "find" => {
-            let digest = fields::digest(words[0])?;
-            let found = hash_index::find(keeper, &digest);
-            Some(found.map(|found| found.map(Row::Block)))
-        }
-        _ => None,
-    }
+/// A look-up of a row by two numbers.
+#[derive(Clone, Copy)]
+enum ByTwo {
+    Entry,
+    BlockAt,
+    Attr,
+    SlotAt,
 }
 
-/// The same of a key of two parts.
-fn row_of_two(keeper: &mut MemKeeper, verb: &str, words: &Words<'_>) -> Option<Found> {
-    let first = fields::number(words[0])?;
-    let second = fields::number(words[1])?;
-    match verb {
-        "entry" => {
-            let found = keeper.entry(first, second);
-            Some(found.map(|found| found.map(Row::Content)))
-        }
-        "block_at" => {
-            let found = keeper.block_at(first, second);
-            Some(found.map(|found| found.map(Row::InodeBlock)))
-        }
-        "attr" => Some(keeper.attr(first, second).map(|found| found.map(Row::Attr))),
-        "slot_at" => {
-            let found = keeper.slot_at(first, second);
-            Some(found.map(|found| found.map(Row::Slot)))
-        }
-        _ => None,
-    }
+#[derive(Clone, Copy)]
+enum LookUp {
+    Params,
+    NameId,
+    Entries,
+    Attrs,
+    FreeObjects,
+    BlocksOf,
+    Slots,
+    Page,
+    BlockByDigest,
+    Find,
+    ByOne(ByOne),
+    ByTwo(ByTwo),
 }
 
-fn found_text(alloc: Global, found: Found) -> io::Result<String> {
-    match found {
-        Ok(Some(row)) => row_text(alloc, &row),
-        Ok(None) => Ok(format!(in alloc; "none")?),
-        Err(fault) => fault_text(alloc, fault),
-    }
+const LOOK_UPS: &[(&str, LookUp)] = &[
+    ("params", LookUp::Params),
+    ("name_id", LookUp::NameId),
+    ("entries", LookUp::Entries),
+    ("attrs", LookUp::Attrs),
+    ("free_objects", LookUp::FreeObjects),
+    ("blocks_of", LookUp::BlocksOf),
+    ("slots", LookUp::Slots),
+    ("page", LookUp::Page),
+    ("block_by_digest", LookUp::BlockByDigest),
+    ("find", LookUp::Find),
+    ("inode", LookUp::ByOne(ByOne::Inode)),
+    ("name", LookUp::ByOne(ByOne::Name)),
+    ("holder", LookUp::ByOne(ByOne::Holder)),
+    ("block", LookUp::ByOne(ByOne::Block)),
+    ("object", LookUp::ByOne(ByOne::Object)),
+    ("target", LookUp::ByOne(ByOne::Target)),
+    ("entry", LookUp::ByTwo(ByTwo::Entry)),
+    ("block_at", LookUp::ByTwo(ByTwo::BlockAt)),
+    ("attr", LookUp::ByTwo(ByTwo::Attr)),
+    ("slot_at", LookUp::ByTwo(ByTwo::SlotAt)),
+];
+
+/// What is printed for words that are no look-up.
+fn no_look_up(alloc: Global) -> Result<String, AllocError> {
+    String::from_str(alloc, "no look-up")
 }
 
-fn params(alloc: Global, keeper: &mut MemKeeper) -> io::Result<String> {
-    match keeper.params() {
-        Ok(Some(params)) => params_text(alloc, &params),
-        Ok(None) => Ok(format!(in alloc; "none")?),
-        Err(fault) => fault_text(alloc, fault),
-    }
-}
-
-fn name_id(alloc: Global, keeper: &mut MemKeeper, words: &Words<'_>) -> io::Result<String> {
-    let Some(name) = fields::bytes(alloc, words[0])? else {
-        return Ok(format!(in alloc; "no name")?);
-    };
-    match keeper.name_id(&name) {
-        Ok(Some(id)) => Ok(format!(in alloc; "{id}")?),
-        Ok(None) => Ok(format!(in alloc; "none")?),
-        Err(fault) => fault_text(alloc, fault),
-    }
-}
-
-/// Entries or attributes: an inode, the name after which they begin, and how many at most.
-fn named(
+fn by_one(
     alloc: Global,
     keeper: &mut MemKeeper,
-    verb: &str,
-    words: &Words<'_>,
-) -> io::Result<String> {
-    let (Some(inode), Some(most)) = (fields::number(words[0]), fields::most(words[2])) else {
-        return Ok(format!(in alloc; "no look-up")?);
-    };
-    let Some(after) = fields::bytes(alloc, words[1])? else {
-        return Ok(format!(in alloc; "no look-up")?);
-    };
-    if verb == "entries" {
-        match keeper.entries(inode, &after, most) {
-            Ok(entries) => entries_text(alloc, &entries),
-            Err(fault) => fault_text(alloc, fault),
-        }
-    } else {
-        match keeper.attrs(inode, &after, most) {
-            Ok(attrs) => attrs_text(alloc, &attrs),
-            Err(fault) => fault_text(alloc, fault),
-        }
+    by: ByOne,
+    key: u64,
+) -> Result<String, AllocError> {
+    match by {
+        ByOne::Inode => found_text(alloc, keeper.inode(key)),
+        ByOne::Name => found_text(alloc, keeper.name(key)),
+        ByOne::Holder => found_text(alloc, keeper.holder(key)),
+        ByOne::Block => found_text(alloc, keeper.block(key)),
+        ByOne::Object => found_text(alloc, keeper.object(key)),
+        ByOne::Target => found_text(alloc, keeper.target(key)),
     }
 }
 
-fn free_objects(alloc: Global, keeper: &mut MemKeeper, words: &Words<'_>) -> io::Result<String> {
-    let (Some(after), Some(most)) = (fields::number(words[0]), fields::most(words[1])) else {
-        return Ok(format!(in alloc; "no look-up")?);
-    };
-    match keeper.free_objects(after, most) {
-        Ok(numbers) => numbers_text(alloc, &numbers),
-        Err(fault) => fault_text(alloc, fault),
+fn by_two(
+    alloc: Global,
+    keeper: &mut MemKeeper,
+    by: ByTwo,
+    first: u64,
+    second: u64,
+) -> Result<String, AllocError> {
+    match by {
+        ByTwo::Entry => found_text(alloc, keeper.entry(first, second)),
+        ByTwo::BlockAt => found_text(alloc, keeper.block_at(first, second)),
+        ByTwo::Attr => found_text(alloc, keeper.attr(first, second)),
+        ByTwo::SlotAt => found_text(alloc, keeper.slot_at(first, second)),
     }
 }
 
-fn blocks_of(alloc: Global, keeper: &mut MemKeeper, words: &Words<'_>) -> io::Result<String> {
-    let (Some(inode), Some(from), Some(most)) = (
-        fields::number(words[0]),
-        fields::number(words[1]),
-        fields::most(words[2]),
-    ) else {
-        return Ok(format!(in alloc; "no look-up")?);
-    };
-    match keeper.blocks_of(inode, from, most) {
-        Ok(found) => {
-            let mut rows = Vec::new(alloc);
-            for row in found.as_slice() {
-                rows.push(Row::InodeBlock(*row))?;
-            }
-            rows_text(alloc, &rows)
-        }
-        Err(fault) => fault_text(alloc, fault),
+fn name_id(
+    alloc: Global,
+    keeper: &mut MemKeeper,
+    fields: &mut Fields,
+) -> Result<String, AllocError> {
+    match fields.bytes(alloc, 0)? {
+        Some(name) => found_text(alloc, keeper.name_id(&name)),
+        None => no_look_up(alloc),
     }
 }
 
-fn slots(alloc: Global, keeper: &mut MemKeeper, words: &Words<'_>) -> io::Result<String> {
-    let (Some(from), Some(most)) = (fields::middle(words[0]), fields::most(words[1])) else {
-        return Ok(format!(in alloc; "no look-up")?);
-    };
-    match keeper.slots(from, most) {
-        Ok(found) => {
-            let mut rows = Vec::new(alloc);
-            for row in found.as_slice() {
-                rows.push(Row::Slot(*row))?;
-            }
-            rows_text(alloc, &rows)
-        }
-        Err(fault) => fault_text(alloc, fault),
+fn entries(
+    alloc: Global,
+    keeper: &mut MemKeeper,
+    fields: &mut Fields,
+) -> Result<String, AllocError> {
+    let (parent, most) = (fields.number(0), fields.most(2));
+    match fields.bytes(alloc, 1)? {
+        Some(after) => list_text(alloc, keeper.entries(parent, &after, most)),
+        None => no_look_up(alloc),
     }
 }
 
-/// The table that a word names.
-fn table_of(word: Option<&str>) -> Option<TableName> {
-    match word? {
-        "inodes" => Some(TableName::Inodes),
-        "names" => Some(TableName::Names),
-        "contents" => Some(TableName::Contents),
-        "inode_blocks" => Some(TableName::InodeBlocks),
-        "blocks" => Some(TableName::Blocks),
-        "objects" => Some(TableName::Objects),
-        "targets" => Some(TableName::Targets),
-        "attrs" => Some(TableName::Attrs),
-        "slots" => Some(TableName::Slots),
-        _ => None,
+fn attrs(alloc: Global, keeper: &mut MemKeeper, fields: &mut Fields) -> Result<String, AllocError> {
+    let (inode, most) = (fields.number(0), fields.most(2));
+    match fields.bytes(alloc, 1)? {
+        Some(after) => list_text(alloc, keeper.attrs(inode, &after, most)),
+        None => no_look_up(alloc),
     }
+}
+
+/// Two numbers with a colon between.
+fn pair_of(word: &str) -> Option<(u64, u64)> {
+    let (first, second) = word.split_once(':')?;
+    Some((first.parse().ok()?, second.parse().ok()?))
 }
 
 /// The key after which a page of a table begins: `start`, or as many numbers as a key of the table has, with a colon between.
-fn key_of(table: TableName, word: Option<&str>) -> Option<RowKey>
+fn key_of(table: TableName, word: &str) -> Option<RowKey>
     ensures { IfSome result (λ key. IsTrue (fits_key table key)) }
 {
-    let word = word?;
     if word == "start" {
         return Some(RowKey::Start);
     }
     match table {
         TableName::Contents | TableName::InodeBlocks | TableName::Attrs => {
-            let (first, second) = word.split_once(':')?;
-            Some(RowKey::Two(first.parse().ok()?, second.parse().ok()?))
+            let (first, second) = pair_of(word)?;
+            Some(RowKey::Two(first, second))
         }
         _ => Some(RowKey::One(word.parse().ok()?)),
     }
 }
 
-fn page(alloc: Global, keeper: &mut MemKeeper, words: &Words<'_>) -> io::Result<String> {
-    let (Some(table), Some(most)) = (table_of(words[0]), fields::most(words[2])) else {
-        return Ok(format!(in alloc; "no look-up")?);
+fn page(alloc: Global, keeper: &mut MemKeeper, fields: &mut Fields) -> Result<String, AllocError> {
+    let most = fields.most(2);
+    let Some(table) = named(TABLES, fields.word(0)) else {
+        return no_look_up(alloc);
     };
-    let Some(after) = key_of(table, words[1]) else {
-        return Ok(format!(in alloc; "no look-up")?);
-    };
-    match keeper.page(table, &after, most) {
-        Ok(rows) => rows_text(alloc, rows.as_slice()),
-        Err(fault) => fault_text(alloc, fault),
+    match key_of(table, fields.word(1)) {
+        Some(after) => list_text(alloc, keeper.page(table, &after, most)),
+        None => no_look_up(alloc),
+    }
+}
+
+/// What a look-up answers by its fields, which means nothing where one is bad.
+fn answer(
+    alloc: Global,
+    keeper: &mut MemKeeper,
+    look_up: LookUp,
+    fields: &mut Fields,
+) -> Result<String, AllocError> {
+    match look_up {
+        LookUp::Params => found_text(alloc, keeper.params()),
+        LookUp::NameId => name_id(alloc, keeper, fields),
+        LookUp::Entries => entries(alloc, keeper, fields),
+        LookUp::Attrs => attrs(alloc, keeper, fields),
+        LookUp::FreeObjects => {
+            let (after, most) = (fields.number(0), fields.most(1));
+            list_text(alloc, keeper.free_objects(after, most))
+        }
+        LookUp::BlocksOf => {
+            let (inode, from, most) = (fields.number(0), fields.number(1), fields.most(2));
+            list_text(alloc, keeper.blocks_of(inode, from, most))
+        }
+        LookUp::Slots => {
+            let (from, most) = (fields.middle(0), fields.most(1));
+            list_text(alloc, keeper.slots(from, most))
+        }
+        LookUp::Page => page(alloc, keeper, fields),
+        LookUp::BlockByDigest => found_text(alloc, keeper.block_by_digest(&fields.digest(0))),
+        LookUp::Find => found_text(alloc, hash_index::find(keeper, &fields.digest(0))),
+        LookUp::ByOne(by) => by_one(alloc, keeper, by, fields.number(0)),
+        LookUp::ByTwo(by) => by_two(alloc, keeper, by, fields.number(0), fields.number(1)),
     }
 }
 
 /// What a look-up answers.
-pub fn look_up(alloc: Global, keeper: &mut MemKeeper, text: &str) -> io::Result<String> {
-    let mut words = text.split_whitespace();
-    let verb = words.next().unwrap_or("");
-    let words = words_of(words);
-    match verb {
-        "params" => params(alloc, keeper),
-        "name_id" => name_id(alloc, keeper, &words),
-        "entries" | "attrs" => named(alloc, keeper, verb, &words),
-        "free_objects" => free_objects(alloc, keeper, &words),
-        "blocks_of" => blocks_of(alloc, keeper, &words),
-        "slots" => slots(alloc, keeper, &words),
-        "page" => page(alloc, keeper, &words),
-        "inode" | "name" | "holder" | "block" | "object" | "target" | "block_by_digest" | "find" =>
-            {
-                match row_of_one(keeper, verb, &words) {
-                    Some(found) => found_text(alloc, found),
-                    None => Ok(format!(in alloc; "no look-up")?),
-                }
-            }
-        _ => match row_of_two(keeper, verb, &words) {
-            Some(found) => found_text(alloc, found),
-            None => Ok(format!(in alloc; "no look-up")?),
-        },
+pub fn look_up(alloc: Global, keeper: &mut MemKeeper, text: &str) -> Result<String, AllocError> {
+    let (verb, rest) = verb_of(text);
+    let mut fields = Fields::of(alloc, rest)?;
+    let Some(look_up) = named(LOOK_UPS, verb) else {
+        return no_look_up(alloc);
+    };
+    let answered = answer(alloc, keeper, look_up, &mut fields)?;
+    if fields.is_bad() {
+        return no_look_up(alloc);
     }
+    Ok(answered)
 }

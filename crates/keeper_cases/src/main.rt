@@ -1,4 +1,4 @@
-//! Worked cases of the keeper in memory. Each line of standard input is a case: its name, the numbers of the calls that fail, and
+//! Worked cases of a keeper in memory. Each line of standard input is a case: its name, the numbers of the calls that fail, and
 //! the steps, with bars between. For each case one line is printed: its name, and what comes of each step.
 #![tactic(auto)]
 
@@ -7,65 +7,54 @@ mod fields;
 mod given;
 mod look_ups;
 mod printing;
+mod steps;
 
-use crate::changes::batch_of;
-use crate::given::keeper_of;
-use crate::look_ups::look_up;
+use crate::steps::step;
+use case_words::{Case, add_outcome, case_of, line_for, numbers_of};
 use mem_keeper::MemKeeper;
-use s3_rows::{Keeper, KeeperFault};
-use std::alloc::Global;
+use s3_base::NumberList;
+use std::alloc::{AllocError, Global};
 use std::io;
 
-/// Commits the changes in a text.
-fn commit(alloc: Global, keeper: &mut MemKeeper, text: &str) -> io::Result<&'static str> {
-    let Some(batch) = batch_of(alloc, text)? else {
-        return Ok("no batch");
-    };
-    match keeper.commit(&batch) {
-        Ok(()) => Ok("committed"),
-        Err(KeeperFault::Failed) => Ok("failed"),
-        Err(KeeperFault::Memory) => Ok("no memory"),
-    }
-}
-
-/// Takes a step, and adds what comes of it to the text. `given` puts another keeper in place.
-fn take_step(
+/// Takes steps, and adds what comes of each to the line that is printed.
+fn take_steps(
     alloc: Global,
     keeper: &mut MemKeeper,
-    step: &str,
+    steps: &str,
     printed: &mut String,
-) -> io::Result<()> {
-    let text = step.trim_ascii();
-    match text.split_once(' ') {
-        Some(("commit", changes)) => printed.push_str(commit(alloc, keeper, changes)?)?,
-        Some(("given", words)) => match keeper_of(alloc, words)? {
-            Some(given) => {
-                *keeper = given;
-                printed.push_str("given")?;
-            }
-            None => printed.push_str("no tables")?,
-        },
-        _ => printed.push_str(look_up(alloc, keeper, text)?.as_str())?,
+) -> Result<(), AllocError> {
+    for text in steps.split(';') {
+        add_outcome(printed, step(alloc, keeper, text)?.as_str())?;
     }
     Ok(())
 }
 
+/// The same over an empty keeper, of which the listed calls fail. It goes at the one end of this function: a proof goes through all
+/// its parts at each end.
+fn begin(
+    alloc: Global,
+    fails: NumberList,
+    steps: &str,
+    printed: &mut String,
+) -> Result<(), AllocError> {
+    let mut keeper = MemKeeper::with_fails(alloc, fails);
+    take_steps(alloc, &mut keeper, steps, printed)
+}
+
 /// The line that is printed for a case.
-fn answer(alloc: Global, line: &str) -> io::Result<String> {
-    let Some((name, rest)) = line.split_once('|') else {
-        return Ok(format!(in alloc; "no case")?);
-    };
-    let Some((fails, steps)) = rest.split_once('|') else {
-        return Ok(format!(in alloc; "no case")?);
-    };
-    let mut keeper = MemKeeper::with_fails(alloc, case_words::numbers_of(alloc, fails)?);
-    let mut printed = format!(in alloc; "{name}:")?;
-    for step in steps.split(';') {
-        printed.push(' ')?;
-        take_step(alloc, &mut keeper, step, &mut printed)?;
-        printed.push(';')?;
-    }
+fn answered(alloc: Global, case: &Case<'_>) -> Result<String, AllocError> {
+    let fails = numbers_of(alloc, case.fails)?;
+    let mut printed = line_for(alloc, case)?;
+    begin(alloc, fails, case.steps, &mut printed)?;
     Ok(printed)
+}
+
+/// The line that is printed for a line.
+fn answer(alloc: Global, line: &str) -> Result<String, AllocError> {
+    match case_of(line) {
+        Some(case) => answered(alloc, &case),
+        None => String::from_str(alloc, "no case"),
+    }
 }
 
 fn main(rt: HostRuntime) -> io::Result<()> {

@@ -1,34 +1,39 @@
 //! Rows in words, in the order of their fields, with names, targets and values in hexadecimal.
 
-use s3_base::{Kind, NumberList};
+use case_words::{add_numbers, kind_word, numbers_behind};
+use s3_base::Sequence;
 use s3_rows::{
-    BlockRow, EntryList, InodeRow, KeeperFault, NamedAttrList, ObjectRow, Params, Row, SlotRow,
-    State,
+    AttrRow, BlockRow, ContentRow, InodeBlockRow, InodeRow, KeeperFault, NameRow, NamedAttr,
+    NamedEntry, ObjectRow, Params, Row, SlotRow, State, TargetRow,
 };
-use std::alloc::Global;
-use std::io;
+use std::alloc::{AllocError, Global};
+use std::fmt::Write;
+
+/// What is printed of a row.
+pub trait Shown {
+    fn text(&self, alloc: Global) -> Result<String, AllocError>;
+}
 
 /// Bytes in hexadecimal, and `-` where there are none.
-fn digits(alloc: Global, bytes: &[u8]) -> io::Result<String> {
+fn digits(alloc: Global, bytes: &[u8]) -> Result<String, AllocError> {
     if bytes.is_empty() {
-        return Ok(format!(in alloc; "-")?);
+        return String::from_str(alloc, "-");
     }
-    Ok(hex::encode(alloc, bytes)?)
+    hex::encode(alloc, bytes)
 }
 
-pub fn fault_word(fault: KeeperFault) -> &'static str {
-    match fault {
-        KeeperFault::Failed => "failed",
-        KeeperFault::Memory => "no memory",
-    }
-}
-
-fn kind_word(kind: Kind) -> &'static str {
-    match kind {
-        Kind::Directory => "directory",
-        Kind::Regular => "file",
-        Kind::Link => "link",
-    }
+/// Numbers and bytes behind a word.
+fn bytes_behind(
+    alloc: Global,
+    word: &str,
+    numbers: &[u64],
+    bytes: &[u8],
+) -> Result<String, AllocError> {
+    let digits = digits(alloc, bytes)?;
+    let mut text = numbers_behind(alloc, word, numbers)?;
+    text.push(' ')?;
+    text.push_str(digits.as_str())?;
+    Ok(text)
 }
 
 fn state_word(state: State) -> &'static str {
@@ -39,152 +44,196 @@ fn state_word(state: State) -> &'static str {
     }
 }
 
-/// The parameters of a file system.
-pub fn params_text(alloc: Global, row: &Params) -> io::Result<String> {
-    let Params {
-        revision,
-        block_size,
-        slots,
-        state,
-        next_inode,
-        next_name,
-        next_block,
-        next_object,
-        generation,
-        last_done,
-    } = *row;
-    let state = state_word(state);
-    let sizes = format!(in alloc; "{revision} {block_size} {slots} {state}")?;
-    let nexts = format!(in alloc; "{next_inode} {next_name} {next_block} {next_object}")?;
-    Ok(format!(in alloc; "params {sizes} {nexts} {generation} {last_done}")?)
-}
-
-fn inode_text(alloc: Global, row: &InodeRow) -> io::Result<String> {
-    let InodeRow {
-        id,
-        kind,
-        mode,
-        uid,
-        gid,
-        mtime,
-        ctime,
-        refcount,
-        size,
-        locked,
-    } = *row;
-    let kind = kind_word(kind);
-    let lock = if locked { " locked" } else { "" };
-    let front = format!(in alloc; "inode {id} {kind} {mode:o} {uid} {gid}")?;
-    Ok(format!(in alloc; "{front} {mtime} {ctime} {refcount} {size}{lock}")?)
-}
-
-fn block_text(alloc: Global, row: &BlockRow) -> io::Result<String> {
-    let BlockRow {
-        id,
-        digest,
-        refcount,
-        size,
-        object,
-    } = *row;
-    let digest = digits(alloc, &digest.0)?;
-    Ok(format!(in alloc; "block {id} {digest} {refcount} {size} {object}")?)
-}
-
-fn object_text(alloc: Global, row: &ObjectRow) -> io::Result<String> {
-    let ObjectRow { id, refcount, size } = *row;
-    match size {
-        Some(size) => Ok(format!(in alloc; "object {id} {refcount} {size}")?),
-        None => Ok(format!(in alloc; "object {id} {refcount} without size")?),
+impl Shown for u64 {
+    fn text(&self, alloc: Global) -> Result<String, AllocError> {
+        format!(in alloc; "{self}")
     }
 }
 
-fn slot_text(alloc: Global, row: &SlotRow) -> io::Result<String> {
-    let SlotRow {
-        slot,
-        inode,
-        blockno,
-        version,
-        len,
-    } = *row;
-    Ok(format!(in alloc; "slot {slot} {inode} {blockno} {version} {len}")?)
-}
-
-/// A row of any table.
-pub fn row_text(alloc: Global, row: &Row) -> io::Result<String> {
-    match row {
-        Row::Inode(row) => inode_text(alloc, row),
-        Row::Name(row) => {
-            let (id, refcount) = (row.id, row.refcount);
-            let name = digits(alloc, row.name.as_slice())?;
-            Ok(format!(in alloc; "name {id} {refcount} {name}")?)
-        }
-        Row::Content(row) => {
-            let (parent, name_id, inode) = (row.parent, row.name_id, row.inode);
-            Ok(format!(in alloc; "content {parent} {name_id} {inode}")?)
-        }
-        Row::InodeBlock(row) => {
-            let (inode, blockno, block) = (row.inode, row.blockno, row.block);
-            Ok(format!(in alloc; "inode_block {inode} {blockno} {block}")?)
-        }
-        Row::Block(row) => block_text(alloc, row),
-        Row::Object(row) => object_text(alloc, row),
-        Row::Target(row) => {
-            let inode = row.inode;
-            let target = digits(alloc, row.target.as_slice())?;
-            Ok(format!(in alloc; "target {inode} {target}")?)
-        }
-        Row::Attr(row) => {
-            let (inode, name_id) = (row.inode, row.name_id);
-            let value = digits(alloc, row.value.as_slice())?;
-            Ok(format!(in alloc; "attr {inode} {name_id} {value}")?)
-        }
-        Row::Slot(row) => slot_text(alloc, row),
+impl Shown for Params {
+    fn text(&self, alloc: Global) -> Result<String, AllocError> {
+        let nexts = [
+            self.next_inode,
+            self.next_name,
+            self.next_block,
+            self.next_object,
+            self.generation,
+            self.last_done,
+        ];
+        let sizes = [
+            self.revision as u64,
+            self.block_size as u64,
+            self.slots as u64,
+        ];
+        let mut text = numbers_behind(alloc, "params", &sizes)?;
+        text.push(' ')?;
+        text.push_str(state_word(self.state))?;
+        add_numbers(&mut text, &nexts)?;
+        Ok(text)
     }
 }
 
-/// How many rows there are, and each of them.
-pub fn rows_text(alloc: Global, rows: &[Row]) -> io::Result<String> {
-    let number = rows.len();
-    let mut text = format!(in alloc; "{number}")?;
-    for row in rows {
+impl Shown for InodeRow {
+    fn text(&self, alloc: Global) -> Result<String, AllocError> {
+        let (kind, mode) = (kind_word(self.kind), self.mode);
+        let numbers = [
+            self.uid as u64,
+            self.gid as u64,
+            self.mtime,
+            self.ctime,
+            self.refcount,
+            self.size,
+        ];
+        let mut text = numbers_behind(alloc, "inode", &[self.id])?;
+        write!(text, " {kind} {mode:o}")?;
+        add_numbers(&mut text, &numbers)?;
+        text.push_str(if self.locked { " locked" } else { "" })?;
+        Ok(text)
+    }
+}
+
+impl Shown for NameRow {
+    fn text(&self, alloc: Global) -> Result<String, AllocError> {
+        let numbers = [self.id, self.refcount];
+        bytes_behind(alloc, "name", &numbers, self.name.as_slice())
+    }
+}
+
+impl Shown for ContentRow {
+    fn text(&self, alloc: Global) -> Result<String, AllocError> {
+        numbers_behind(alloc, "content", &[self.parent, self.name_id, self.inode])
+    }
+}
+
+impl Shown for InodeBlockRow {
+    fn text(&self, alloc: Global) -> Result<String, AllocError> {
+        numbers_behind(
+            alloc,
+            "inode_block",
+            &[self.inode, self.blockno, self.block],
+        )
+    }
+}
+
+impl Shown for BlockRow {
+    fn text(&self, alloc: Global) -> Result<String, AllocError> {
+        let numbers = [self.refcount, self.size as u64, self.object];
+        let mut text = bytes_behind(alloc, "block", &[self.id], &self.digest.0)?;
+        add_numbers(&mut text, &numbers)?;
+        Ok(text)
+    }
+}
+
+impl Shown for ObjectRow {
+    fn text(&self, alloc: Global) -> Result<String, AllocError> {
+        let mut text = numbers_behind(alloc, "object", &[self.id, self.refcount])?;
+        match self.size {
+            Some(size) => add_numbers(&mut text, &[size as u64])?,
+            None => text.push_str(" without size")?,
+        }
+        Ok(text)
+    }
+}
+
+impl Shown for TargetRow {
+    fn text(&self, alloc: Global) -> Result<String, AllocError> {
+        bytes_behind(alloc, "target", &[self.inode], self.target.as_slice())
+    }
+}
+
+impl Shown for AttrRow {
+    fn text(&self, alloc: Global) -> Result<String, AllocError> {
+        let numbers = [self.inode, self.name_id];
+        bytes_behind(alloc, "attr", &numbers, self.value.as_slice())
+    }
+}
+
+impl Shown for SlotRow {
+    fn text(&self, alloc: Global) -> Result<String, AllocError> {
+        let numbers = [
+            self.slot as u64,
+            self.inode,
+            self.blockno,
+            self.version,
+            self.len as u64,
+        ];
+        numbers_behind(alloc, "slot", &numbers)
+    }
+}
+
+impl Shown for Row {
+    fn text(&self, alloc: Global) -> Result<String, AllocError> {
+        match self {
+            Row::Inode(row) => row.text(alloc),
+            Row::Name(row) => row.text(alloc),
+            Row::Content(row) => row.text(alloc),
+            Row::InodeBlock(row) => row.text(alloc),
+            Row::Block(row) => row.text(alloc),
+            Row::Object(row) => row.text(alloc),
+            Row::Target(row) => row.text(alloc),
+            Row::Attr(row) => row.text(alloc),
+            Row::Slot(row) => row.text(alloc),
+        }
+    }
+}
+
+/// A row behind its name.
+fn named_text<T: Shown>(alloc: Global, name: &[u8], row: &T) -> Result<String, AllocError> {
+    let mut text = digits(alloc, name)?;
+    text.push(' ')?;
+    text.push_str(row.text(alloc)?.as_str())?;
+    Ok(text)
+}
+
+impl Shown for NamedEntry {
+    fn text(&self, alloc: Global) -> Result<String, AllocError> {
+        named_text(alloc, self.name.as_slice(), &self.row)
+    }
+}
+
+impl Shown for NamedAttr {
+    fn text(&self, alloc: Global) -> Result<String, AllocError> {
+        named_text(alloc, self.name.as_slice(), &self.row)
+    }
+}
+
+pub fn fault_word(fault: KeeperFault) -> &'static str {
+    match fault {
+        KeeperFault::Failed => "failed",
+        KeeperFault::Memory => "no memory",
+    }
+}
+
+/// What a look-up of one item answers.
+pub fn found_text<T: Shown + Drop>(
+    alloc: Global,
+    found: Result<Option<T>, KeeperFault>,
+) -> Result<String, AllocError> {
+    match found {
+        Ok(Some(item)) => item.text(alloc),
+        Ok(None) => String::from_str(alloc, "none"),
+        Err(fault) => String::from_str(alloc, fault_word(fault)),
+    }
+}
+
+/// How many items there are, and each of them.
+fn items_text<T: Shown>(alloc: Global, items: &[T]) -> Result<String, AllocError> {
+    let number = items.len() as u64;
+    let mut text = number.text(alloc)?;
+    for item in items {
         text.push_str(", ")?;
-        text.push_str(row_text(alloc, row)?.as_str())?;
+        text.push_str(item.text(alloc)?.as_str())?;
     }
     Ok(text)
 }
 
-/// The names of entries, with the inodes that they name.
-pub fn entries_text(alloc: Global, entries: &EntryList) -> io::Result<String> {
-    let number = entries.len();
-    let mut text = format!(in alloc; "{number}")?;
-    for entry in entries.as_slice() {
-        let (parent, name_id, inode) = (entry.row.parent, entry.row.name_id, entry.row.inode);
-        let name = digits(alloc, entry.name.as_slice())?;
-        let item = format!(in alloc; ", {name} content {parent} {name_id} {inode}")?;
-        text.push_str(item.as_str())?;
+/// What a look-up of several items answers.
+pub fn list_text<T: Shown + Drop>(
+    alloc: Global,
+    found: Result<Sequence<T>, KeeperFault>,
+) -> Result<String, AllocError> {
+    match found {
+        Ok(items) => items_text(alloc, items.as_slice()),
+        Err(fault) => String::from_str(alloc, fault_word(fault)),
     }
-    Ok(text)
-}
-
-/// The names of attributes, with their rows.
-pub fn attrs_text(alloc: Global, attrs: &NamedAttrList) -> io::Result<String> {
-    let number = attrs.len();
-    let mut text = format!(in alloc; "{number}")?;
-    for attr in attrs.as_slice() {
-        let (inode, name_id) = (attr.row.inode, attr.row.name_id);
-        let name = digits(alloc, attr.name.as_slice())?;
-        let value = digits(alloc, attr.row.value.as_slice())?;
-        let item = format!(in alloc; ", {name} attr {inode} {name_id} {value}")?;
-        text.push_str(item.as_str())?;
-    }
-    Ok(text)
-}
-
-pub fn numbers_text(alloc: Global, numbers: &NumberList) -> io::Result<String> {
-    let many = numbers.len();
-    let mut text = format!(in alloc; "{many}")?;
-    for number in numbers.as_slice() {
-        text.push_str(format!(in alloc; ", {number}")?.as_str())?;
-    }
-    Ok(text)
 }
