@@ -23,7 +23,7 @@ use Rattle.row_steps.specs.RowChanges.{counted_row, dropping, moving, name_of_re
 use Rattle.row_steps.proofs.Leaving.{IsLeaving, entry_is}
 use Rattle.row_steps.proofs.MovedNames.{IsStep-other_name, IsStep-same_name}
 use Rattle.row_steps.proofs.Moving.{IsMoving, final}
-use Rattle.row_steps.proofs.NewNodes.{effect_well}
+use Rattle.tree_laws.proofs.WellFormed.{IsWellFormed-effect}
 use Rattle.row_steps.proofs.Place.{kind_there}
 use Rattle.row_steps.proofs.Replacing.{IsStep-replacing}
 
@@ -89,7 +89,7 @@ module _ (t : Tables) (whole : Tree) (p : Parameters) (d d2 r : Inode) (c : Cont
     to_new_is = effect_is apart ∙ ap (λ e. dropped now e (final t whole p d d2 r c n now parent name new_parent new_name (is_moving apart))) absent
 
     well_after : IsWellFormed (final t whole p d d2 r c n now parent name new_parent new_name (is_moving apart))
-    well_after = subst IsWellFormed to_new_is (effect_well whole pass now (ops.Rename parent name new_parent new_name) well passes)
+    well_after = subst IsWellFormed to_new_is (IsWellFormed-effect whole pass now (ops.Rename parent name new_parent new_name) well passes)
 
     pub same_name_moved : new_name ≡ name → IsStep t (tables_after (moving d d2 c (same_name c) r now) t) (effect whole pass (ops.Rename parent name new_parent new_name) now) 0
     same_name_moved alike =
@@ -136,7 +136,7 @@ module _ (t : Tables) (whole : Tree) (p : Parameters) (d d2 r : Inode) (c : Cont
         subst (λ (next : Tree). IsStep t (tables_after (moving d d2 c (name_of_replaced n c2) r now ++ changes.PutInode (counted_row count now r2) ∷ []) t) next 0)
         (sym over_is)
         (IsStep-replacing t whole p d d2 r r2 c c2 n n2 now parent name new_parent new_name (is_moving differ) replaced count one_less some
-        (subst IsWellFormed over_is (effect_well whole pass now (ops.Rename parent name new_parent new_name) well passes)))
+        (subst IsWellFormed over_is (IsWellFormed-effect whole pass now (ops.Rename parent name new_parent new_name) well passes)))
 
 pub same_name_step : (t : Tables) (whole : Tree) (p : Parameters) (d d2 r : Inode) (c : Content) (n : Name) (pass parent new_parent now : ℕ) (name : List ℕ)
     → IsValid t → IsWellFormed whole → Represents t whole → t.params ≡ Some p → inode_at t parent ≡ Some d → inode_at t new_parent ≡ Some d2
