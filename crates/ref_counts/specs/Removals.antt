@@ -44,3 +44,8 @@ target_dropped (Some x) inode = changes.DeleteTarget inode ∷ []
 -- The changes by which an inode goes, with what is its own in told tables; t has the names as they are by then.
 abbrev pub removal : Tables → ℕ → Tables → List Change
 removal told inode t = attrs_dropped (attrs_of told inode) t ++ target_dropped (target_at told inode) inode ++ changes.DeleteInode inode ∷ []
+
+-- inodes that go one after the other
+abbrev pub removals : Tables → List ℕ → Tables → List Change
+removals told [] t = []
+removals told (inode ∷ inodes) t = removal told inode t ++ removals told inodes (tables_after (removal told inode t) t)

@@ -2,6 +2,7 @@ pub mod Attributes
 pub mod Dropping
 pub mod Entering
 pub mod Leaving
+pub mod LeftFiles
 pub mod Less
 pub mod Living
 pub mod Making

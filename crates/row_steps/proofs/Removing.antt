@@ -1,6 +1,7 @@
 -- An inode that goes: its attributes with the uses of their names, its target, and its row.
 use Rattle.std.proofs.Common.{◌≡◌, ◌≤◌, ℕ, List, [], ◌∷◌, ◌++◌, length, Bool, true, false, Option, None, Some, refl, sym, ap, ◌∙◌, arith, eqb-true}
 use Rattle.std.specs.Prelude.{IsTrue, not, ◌==◌, is_some, filter, find}
+use Rattle.std.specs.Cmp.{nat_cmp_total}
 use Rattle.std.proofs.lemmas.Bool.{and_parts}
 use Rattle.s3_base.specs.declared.node_kind.Kind.{Kind}
 use Rattle.plain_tree.specs.Tree.{Tree, without_node}
@@ -12,11 +13,12 @@ use Rattle.s3_rows.specs.Tables.{Tables, by_attr, by_inode, by_target}
 use Rattle.s3_rows.specs.Batches.{tables_after}
 use Rattle.s3_rows.specs.Selections.{inode_at, name_at, attr_at, target_at}
 use Rattle.s3_rows.specs.Validity.{HasUniqueNames, any_kind, differ, finds_of_attr, has_inode, have_same_bytes}
-use Rattle.row_lemmas.proofs.Tests.{eqb_comm, find_passes, find_passes_all, is_eq-nat_cmp, list_all-filter_same, list_all_weaker}
+use Rattle.row_lemmas.proofs.Tests.{eqb_comm, find_passes, find_passes_all, is_eq-nat_cmp, list_all-filter_same, list_all_weaker, pair_parts}
 use Rattle.row_lemmas.proofs.Filters.{find_from_filter, list_all_from_filter}
+use Rattle.row_lemmas.proofs.Keyed.Filter.{filter-without_false}
 use Rattle.row_lemmas.proofs.Keyed.Rest.{filter-without_first, length-without}
 use Rattle.row_lemmas.proofs.Keyed.RowAt.{row_at_from_find}
-use Rattle.row_lemmas.proofs.Keyed.Without.{without_none}
+use Rattle.row_lemmas.proofs.Keyed.Without.{row_at-without_other, without_none}
 use Rattle.row_lemmas.proofs.Tables.{pair_cmp_total, tables_after-tables_after}
 use Rattle.tree_rows.specs.Shapes.{node_of_row, Represents}
 use Rattle.ref_counts.specs.Names.{lowered, lowered_of}
@@ -39,6 +41,7 @@ pub record IsCleared (t u : Tables) (p : Parameters) (links uses : List ℕ) (id
   pub nodes : (x : Inode) → (x.id == id) ≡ false → node_of_row (record t { names = names; attrs = attrs }) x ≡ node_of_row t x
   pub unique : HasUniqueNames t → IsTrue (differ have_same_bytes names)
   pub none : filter (λ (r : Attr). r.inode == id) attrs ≡ []
+  pub others : (x : ℕ) → (x == id) ≡ false → filter (λ (r : Attr). r.inode == x) attrs ≡ filter (λ (r : Attr). r.inode == x) t.attrs
   pub fewer : length attrs ≤ length t.attrs
 
 pub IsCleared-attrs_dropped : (attrs : List Attr) (t : Tables) (p : Parameters) (links uses : List ℕ) (id : ℕ) → Owes t p links uses → attrs_of t id ≡ attrs
@@ -51,6 +54,7 @@ IsCleared-attrs_dropped [] t p links uses id o is = record {
   nodes = λ x apart. refl;
   unique = λ unique. unique;
   none = is;
+  others = λ x apart. refl;
   fewer = omega arith;
 }
 IsCleared-attrs_dropped (a ∷ attrs) t p links uses id o is =
@@ -95,6 +99,11 @@ IsCleared-attrs_dropped (a ∷ attrs) t p links uses id o is =
               rest.nodes x apart ∙ lower.nodes x ∙ node_of_row-without_attr_other t a.inode a.name_id x (ap (λ n. x.id == n) own ∙ apart);
           unique = λ unique. rest.unique (lower.unique unique);
           none = rest.none;
+          others =
+              λ x apart.
+              rest.others x apart
+              ∙ filter-without_false by_attr (λ (r : Attr). r.inode == x) (a.inode, a.name_id) t.attrs
+              (λ y alike. ap (λ n. n == x) (sym (pair_parts (a.inode, a.name_id) (y.inode, y.name_id) alike).0 ∙ own) ∙ eqb_comm id x ∙ apart);
           fewer = omega (arith, rest.fewer, length-without by_attr (a.inode, a.name_id) t.attrs);
         }
 
@@ -155,10 +164,19 @@ module _ (t : Tables) (p : Parameters) (id : ℕ) (links uses now : List ℕ) (o
   pub Owes-removal : Owes gone p now uses
   Owes-removal = Owes-without_inode_any emptied p id links uses now (Owes-without_target bared p id links uses cleared.owes) nothing others
 
+  pub node_of_row-removal : (x : Inode) → (x.id == id) ≡ false → node_of_row gone x ≡ node_of_row t x
+  node_of_row-removal x apart = node_of_row-without_target_other bared id x apart ∙ cleared.nodes x apart
+
+  -- what is another inode's stays
+  pub attrs_of-removal_other : (x : ℕ) → (x == id) ≡ false → attrs_of gone x ≡ attrs_of t x
+  attrs_of-removal_other x apart = cleared.others x apart
+
+  pub target_at-removal_other : (x : ℕ) → (x == id) ≡ false → target_at gone x ≡ target_at t x
+  target_at-removal_other x apart = row_at-without_other by_target nat_cmp_total id x t.targets (is_eq-nat_cmp id x ∙ eqb_comm id x ∙ apart)
+
   pub Represents-removal : (whole : Tree) → Represents t whole → Represents gone (without_node id whole)
   Represents-removal whole same =
-      Represents-without_inode_rest t gone whole id o.ordered.inodes refl refl
-      (λ x apart. node_of_row-without_target_other bared id x apart ∙ cleared.nodes x apart) same
+      Represents-without_inode_rest t gone whole id o.ordered.inodes refl refl node_of_row-removal same
 
   pub HasUniqueNames-removal : HasUniqueNames t → HasUniqueNames gone
   HasUniqueNames-removal unique = cleared.unique unique

@@ -1,12 +1,13 @@
-ghost use Rattle.std.specs.Prelude.{◌≡◌, ◌++◌, ◌==◌, ◌||◌, ℕ, List, [], Bool, not, nat_lt, IsTrue, None, Some};
+ghost use Rattle.std.specs.Prelude.{◌≡◌, ◌++◌, ◌==◌, ◌||◌, ℕ, List, [], Bool, filter, not, nat_lt, IsTrue, None, Some};
 ghost use Rattle.op_frames.specs.declared.operation.Op.{Op};
 ghost use Rattle.op_frames.specs.declared.operation.Op.TheVariants as ops;
 ghost use Rattle.op_frames.specs.declared.operation.SetFlag.{SetFlag};
 ghost use Rattle.std.specs.List.{list_all};
 ghost use Rattle.s3_base.specs.declared.node_kind.Kind.TheVariants as kinds;
 ghost use Rattle.plain_tree.specs.Tree.{Handle, Tree, handle_of, without_handle};
+ghost use Rattle.plain_tree.specs.Below.{is_among};
 ghost use Rattle.plain_tree.specs.Classes.{keeps_rows};
-ghost use Rattle.plain_tree.specs.Entries.{is_open};
+ghost use Rattle.plain_tree.specs.Entries.{is_open, lives};
 ghost use Rattle.plain_tree.specs.Checks.{first_failure};
 ghost use Rattle.plain_tree.specs.Operations.{checks, effect};
 ghost use Rattle.plain_tree.specs.WellFormed.{IsWellFormed};
@@ -14,13 +15,13 @@ ghost use Rattle.s3_rows.specs.Rows.{Attr, Content, Inode, Name, Parameters};
 ghost use Rattle.s3_rows.specs.Tables.{Tables};
 ghost use Rattle.s3_rows.specs.Batches.{tables_after};
 ghost use Rattle.s3_rows.specs.Selections.{entry_at, inode_at, name_at, name_of_bytes};
-ghost use Rattle.s3_rows.specs.Validity.{IsValid, HasUniqueNames};
+ghost use Rattle.s3_rows.specs.Validity.{IsValid, HasUniqueNames, differ};
 ghost use Rattle.tree_rows.specs.NamedAttrs.{attr_of_name};
 ghost use Rattle.tree_rows.specs.Shapes.{Represents};
 ghost use Rattle.ref_counts.specs.Names.{Raised, raised};
 ghost use Rattle.ref_counts.specs.Plans.{AreNamed, IsStep};
-ghost use Rattle.ref_counts.specs.Removals.{removal};
-ghost use Rattle.row_steps.specs.Owed.{Owes};
+ghost use Rattle.ref_counts.specs.Removals.{removal, removals};
+ghost use Rattle.row_steps.specs.Owed.{IsBare, Owes};
 ghost use Rattle.row_steps.specs.RowChanges.{adding_attr, creation, dropping, new_directory_row, new_file_row, removing_attr, setting_attr, settling, unlinking, with_drawn};
 
 /// Where no check of an operation on a well-formed tree fails, tables that owe nothing and represent the tree after it are valid.
@@ -74,6 +75,16 @@ pub fn old_links_are_steps()
         → is_open whole c.inode ≡ held → first_failure (checks whole pass (ops.Unlink parent name)) ≡ None
         → (AreNamed t → AreNamed (tables_after (unlinking (nat_lt 1 r.refcount || held) t directory r c n now) t))
         → IsStep t (tables_after (unlinking (nat_lt 1 r.refcount || held) t directory r c n now) t) (effect whole pass (ops.Unlink parent name) now) 0 }
+{}
+
+/// Where a pass leaves, the nameless files go that its handles alone kept, one after the other. No entry is in them, and no block
+/// or slot is of them.
+pub fn left_files_are_steps()
+    ensures { (t : Tables) (whole : Tree) (p : Parameters) (pass now : ℕ) (inodes : List ℕ)
+        → IsValid t → HasUniqueNames t → IsWellFormed whole → Represents t whole → t.params ≡ Some p
+        → ((x : ℕ) → IsTrue (is_among inodes x) → IsBare t x) → IsTrue (differ (λ a b. b == a) inodes)
+        → ((r : Inode) → inode_at t r.id ≡ Some r → lives (record whole { handles = filter (λ h. not (h.1.pass == pass)) whole.handles }) r.id ≡ not (is_among inodes r.id))
+        → IsStep t (tables_after (removals t inodes t) t) (effect whole pass ops.Leave now) 0 }
 {}
 
 /// Where no check of a Release fails, a file that neither an entry nor another handle keeps goes; else the rows stay.
