@@ -1,6 +1,6 @@
 -- Which nodes entries and handles keep, by the counts of rows.
-use Rattle.std.proofs.Common.{◌≡◌, ◌≢◌, ℕ, ◌+◌, List, [], ◌∷◌, Bool, true, false, cond, Option, None, Some, refl, sym, ap, ◌∙◌, arith, eqb-true, eq-eqb}
-use Rattle.std.specs.Prelude.{IsTrue, not, ◌||◌, ◌==◌, count_by, sum_by}
+use Rattle.std.proofs.Common.{◌≡◌, ◌≢◌, ℕ, ◌+◌, List, [], ◌∷◌, Bool, true, false, cond, Option, None, Some, refl, sym, ap, ◌∙◌, arith, eqb-true, eq-eqb, ltb-false, ltb-true}
+use Rattle.std.specs.Prelude.{IsTrue, nat_lt, not, ◌||◌, ◌==◌, count_by, sum_by}
 use Rattle.std.specs.List.{list_all, list_any}
 use Rattle.std.specs.Map.{remove_entry, set_value}
 use Rattle.std.specs.BTreeMap.{is_at}
@@ -63,6 +63,19 @@ named_in inode (tree.Link target) = refl
 pub is_named-entries_naming : (whole : Tree) (inode : ℕ) → is_named whole inode ≡ not (entries_naming whole inode == 0)
 is_named-entries_naming whole inode =
     list_any-sum_by (λ (e : ℕ × Node). list_any (λ entry. entry.1 == inode) (entries_of e.1.content)) (λ e. names_in inode e.1.content) (λ e. named_in inode e.1.content) whole.nodes
+
+-- one link less is some where more than one was
+pub some_left : (a b : ℕ) → a ≡ b + 1 → not (b == 0) ≡ nat_lt 1 a
+some_left a b is = by_case (b == 0) refl (nat_lt 1 a) refl
+  where
+    by_case : (x : Bool) → (b == 0) ≡ x → (y : Bool) → nat_lt 1 a ≡ y → not x ≡ y
+    by_case true none true more = absurd (omega (arith, is, eqb-true b 0 none, ltb-true 1 a more))
+    by_case true none false less = refl
+    by_case false some true more = refl
+    by_case false some false less =
+        let none : b ≡ 0 = omega (arith, is, ltb-false 1 a less) in
+        let clash : true ≡ false = sym (eq-eqb b 0 none) ∙ some in
+        absurd (cc clash)
 
 -- ---- of tables that owe
 

@@ -116,8 +116,8 @@ module _ (t : Tables) (whole : Tree) (p : Parameters) (d d2 r : Inode) (c : Cont
         slots = refl;
         contents = fewer c.name_id;
         attrs = omega arith;
-        named = named_after;
       })
+      named_after
 
   -- ---- another name
 

@@ -6,8 +6,9 @@ use Rattle.std.specs.List.{list_all}
 use Rattle.std.specs.Cmp.{nat_cmp_total}
 use Rattle.s3_base.specs.Numbers.{root}
 use Rattle.s3_base.specs.declared.node_kind.Kind.TheVariants as kinds
-use Rattle.plain_tree.specs.Tree.{Tree, change_node, stamped}
-use Rattle.plain_tree.specs.Entries.{add_entry, drop_entry, entry_at}
+use Rattle.plain_tree.specs.Tree as tree
+use Rattle.plain_tree.specs.Tree.{Tree, change_node, stamped, touched}
+use Rattle.plain_tree.specs.Entries.{add_entry, drop_entry, entry_at, is_open, unnamed}
 use Rattle.plain_tree.specs.WellFormed.{IsWellFormed}
 use Rattle.s3_rows.specs.Rows.{Inode, Name, Content, Parameters}
 use Rattle.s3_rows.specs.Keyed.{has_key, put, row_at, without}
@@ -28,6 +29,7 @@ use Rattle.tree_rows.proofs.Whole.{number_of}
 use Rattle.row_steps.specs.Owed.{Owes}
 use Rattle.row_steps.specs.RowChanges.{stamped_row, touched_row}
 use Rattle.row_steps.proofs.Leaving.{IsLeaving, child_number, child_there, entry_is, not_root, number, there}
+use Rattle.row_steps.proofs.Living.{is_open-change_node}
 use Rattle.row_steps.proofs.Owed.Inodes.{Owes-put_inode_same}
 use Rattle.row_steps.proofs.Place.{is_entry_none, kind_there}
 use Rattle.row_steps.proofs.Placing.{IsPlacing, IsTouchedRow, IsTouchedRow-put, Owes-placed, Represents-placed, placed}
@@ -100,6 +102,13 @@ module _ (t : Tables) (whole : Tree) (p : Parameters) (d d2 r : Inode) (c : Cont
 
   abbrev pub final : Tree
   final = change_node c.inode (stamped now) (add_entry new_parent new_name c.inode now (drop_entry new_parent new_name now left))
+
+  pub is_open-final : (x : ℕ) → is_open final x ≡ is_open whole x
+  is_open-final x =
+      is_open-change_node (stamped now) c.inode x (add_entry new_parent new_name c.inode now (drop_entry new_parent new_name now left))
+      ∙ is_open-change_node (λ node. touched now (record node { content = tree.named new_name c.inode node.content })) new_parent x (drop_entry new_parent new_name now left)
+      ∙ is_open-change_node (λ node. touched now (record node { content = unnamed new_name node.content })) new_parent x left
+      ∙ is_open-change_node (λ node. touched now (record node { content = unnamed name node.content })) parent x whole
 
   pub children : IsTrue (list_all (λ (x : Content). has_inode any_kind t x.inode) (without by_entry (c.parent, c.name_id) t.contents))
   children =

@@ -1,6 +1,6 @@
 -- A file that loses an entry, and a nameless file that loses a handle: it goes where nothing keeps it.
-use Rattle.std.proofs.Common.{◌≡◌, ℕ, ◌+◌, ◌-◌, List, [], ◌∷◌, Bool, true, false, cond, Option, None, Some, refl, sym, ap, ◌∙◌, subst, arith, eqb-true, eq-eqb, ltb-true}
-use Rattle.std.proofs.lemmas.Bool.{and_parts, ltb-false}
+use Rattle.std.proofs.Common.{◌≡◌, ℕ, ◌+◌, ◌-◌, List, [], ◌∷◌, Bool, true, false, cond, Option, None, Some, refl, sym, ap, ◌∙◌, subst, arith, eqb-true}
+use Rattle.std.proofs.lemmas.Bool.{and_parts}
 use Rattle.std.specs.Prelude.{IsTrue, not, ◌||◌, ◌==◌, is_some, nat_lt, option_and_then}
 use Rattle.std.specs.List.{list_all}
 use Rattle.s3_base.specs.declared.node_kind.Kind.TheVariants as kinds
@@ -36,7 +36,7 @@ use Rattle.row_steps.specs.Owed.{IsBare, Owes, owes_links, times}
 use Rattle.row_steps.specs.RowChanges.{counted_row, dropping, settling, unlinking, touched_row}
 use Rattle.row_steps.proofs.Leaving.{IsLeaving, IsLess-dropped, IsStep-left, HasUniqueNames-dropped, Owes-dropped, Represents-dropped, child_number, child_there, dropped, dropped_is, entry_is, not_root, row_there, there}
 use Rattle.row_steps.proofs.Less.{IsLess, IsLess-refl, IsStep-less}
-use Rattle.row_steps.proofs.Living.{FindsChildren, FindsChildren-IsValid, FindsChildren-put, is_named-owes, is_open-change_node, kept-refcount, without_node-change_node}
+use Rattle.row_steps.proofs.Living.{FindsChildren, FindsChildren-IsValid, FindsChildren-put, is_named-owes, is_open-change_node, kept-refcount, some_left, without_node-change_node}
 use Rattle.row_steps.proofs.Owed.Ends.{Owes-IsValid}
 use Rattle.row_steps.proofs.Owed.Inodes.{Owes-put_inode_less, times_first}
 use Rattle.row_steps.proofs.Place.{kind_there}
@@ -45,19 +45,6 @@ use Rattle.row_steps.proofs.Removing.{HasUniqueNames-removal, Owes-removal, Repr
 no_folder : (found : Option Node) → no_directory_check 21 found ≡ None → is_folder found ≡ false
 no_folder None is = refl
 no_folder (Some node) is = not_failed 21 (entries.is_directory node.content) is
-
--- one link less is some where more than one was
-some_left : (a b : ℕ) → a ≡ b + 1 → not (b == 0) ≡ nat_lt 1 a
-some_left a b is = by_case (b == 0) refl (nat_lt 1 a) refl
-  where
-    by_case : (x : Bool) → (b == 0) ≡ x → (y : Bool) → nat_lt 1 a ≡ y → not x ≡ y
-    by_case true none true more = absurd (omega (arith, is, eqb-true b 0 none, ltb-true 1 a more))
-    by_case true none false less = refl
-    by_case false some true more = refl
-    by_case false some false less =
-        let none : b ≡ 0 = omega (arith, is, ltb-false 1 a less) in
-        let clash : true ≡ false = sym (eq-eqb b 0 none) ∙ some in
-        absurd (cc clash)
 
 -- no entry is in what is no directory
 no_entries : (t : Tables) (r : Inode) → inode_at t r.id ≡ Some r → is_directory r.kind ≡ false → {p : Parameters} → Owes t p [] []

@@ -1,34 +1,32 @@
 -- An empty directory that goes.
-use Rattle.std.proofs.Common.{◌≡◌, ℕ, List, ◌++◌, Bool, true, false, Option, None, Some, refl, sym, ap, ◌∙◌, subst, eqb-true}
+use Rattle.std.proofs.Common.{◌≡◌, ℕ, List, ◌++◌, false, Option, None, Some, sym, ap, ◌∙◌, subst}
 use Rattle.std.specs.Prelude.{IsTrue, not, ◌==◌, is_some, option_and_then, unwrap_or}
-use Rattle.std.specs.List.{list_all, list_any}
+use Rattle.std.specs.List.{list_all}
 use Rattle.std.proofs.lemmas.Bool.{and_parts}
 use Rattle.s3_base.specs.declared.node_kind.Kind.TheVariants as kinds
 use Rattle.op_frames.specs.declared.operation.Op.TheVariants as ops
 use Rattle.plain_tree.specs.Tree.{Tree, node_at, without_node}
 use Rattle.plain_tree.specs.Checks.{first_failure, node_check, directory_check, empty_check}
 use Rattle.plain_tree.specs.Entries.{child_at, drop_entry}
-use Rattle.plain_tree.specs.Entries as entries
 use Rattle.plain_tree.specs.Operations.{checks, effect}
 use Rattle.plain_tree.specs.WellFormed.{IsWellFormed}
 use Rattle.s3_rows.specs.Rows.{Inode, Name, Content, InodeBlock, Slot, Parameters}
 use Rattle.s3_rows.specs.Tables.{Tables}
 use Rattle.s3_rows.specs.Batches.{tables_after}
-use Rattle.s3_rows.specs.Selections.{inode_at, entry_at, block_at, bytes_of_name, name_of_bytes}
+use Rattle.s3_rows.specs.Selections.{inode_at, entry_at, block_at, name_of_bytes}
 use Rattle.s3_rows.specs.Validity.{IsValid, HasUniqueNames, any_kind, finds_of_inode_block, has_inode, is_regular}
-use Rattle.row_lemmas.proofs.Tests.{find_from_list_any, find_passes, list_all_from_list_any, list_all_weaker}
+use Rattle.row_lemmas.proofs.Tests.{list_all_weaker}
 use Rattle.tree_laws.proofs.Node.Kind.{empty_is, some_node}
 use Rattle.tree_laws.proofs.Walk.Passed.{CanUnmake, can_unmake}
 use Rattle.tree_laws.proofs.WellFormed.{IsWellFormed-effect}
 use Rattle.tree_rows.specs.Shapes.{Represents}
-use Rattle.tree_rows.proofs.Rooted.{own_entry}
 use Rattle.tree_rows.proofs.Whole.{node_is}
 use Rattle.ref_counts.specs.Plans.{IsStep}
 use Rattle.ref_counts.specs.Removals.{removal}
 use Rattle.row_steps.specs.Owed.{IsBare}
 use Rattle.row_steps.specs.RowChanges.{dropping}
 use Rattle.row_steps.proofs.Leaving.{IsLeaving, IsStep-left, child_there, child_number, entry_is}
-use Rattle.row_steps.proofs.Place.{kind_there}
+use Rattle.row_steps.proofs.Place.{kind_there, no_entries_in}
 use Rattle.row_steps.proofs.Removing.{apart_by_kind}
 
 pub old_directory_step : (t : Tables) (whole : Tree) (p : Parameters) (directory child : Inode) (c : Content) (n : Name) (pass parent now : ℕ) (name : List ℕ)
@@ -80,22 +78,9 @@ old_directory_step t whole p directory child c n pass parent now name v unique w
 
     -- an entry in it would be one of the tree
     empty : IsTrue (list_all (λ (x : Content). not (x.parent == child.id)) t.contents)
-    empty = list_all_from_list_any (λ (x : Content). x.parent == child.id) t.contents (by_case (list_any (λ (x : Content). x.parent == child.id) t.contents) refl)
-      where
-        by_case : (b : Bool) → list_any (λ (x : Content). x.parent == child.id) t.contents ≡ b → IsTrue (not b)
-        by_case true any =
-            let inner = find_from_list_any (λ (x : Content). x.parent == child.id) t.contents any in
-            let x : Content = inner.0 in
-            let parent_is : x.parent ≡ c.inode =
-            eqb-true x.parent child.id (find_passes (λ (y : Content). y.parent == child.id) t.contents x inner.1)
-            ∙ sym (child_number t whole p directory child c n now parent name is) in
-            let text : List ℕ = bytes_of_name t x.name_id in
-            let in_tree : entries.entry_at whole c.inode text ≡ Some x.inode =
-            ap (λ y. entries.entry_at whole y text) (sym parent_is) ∙ own_entry t v whole same (λ (y : Content). y.parent == child.id) x inner.1 in
-            let none : entries.entry_at whole c.inode text ≡ None = empty_is (node_at whole c.inode) (ap empty_check (sym child_is) ∙ can.empty) text in
-            let clash : Some x.inode ≡ None = sym in_tree ∙ none in
-            absurd (cc clash)
-        by_case false none = refl
+    empty =
+        subst (λ k. IsTrue (list_all (λ (x : Content). not (x.parent == k)) t.contents)) (child_number t whole p directory child c n now parent name is)
+        (no_entries_in t whole v same c.inode (empty_is (node_at whole c.inode) (ap empty_check (sym child_is) ∙ can.empty)))
 
     bare : IsBare t child.id
     bare = record {

@@ -1,6 +1,6 @@
 -- Where no check of a new entry fails, its directory has a row of that kind, and no row is an entry of the name.
-use Rattle.std.proofs.Common.{◌≡◌, ℕ, List, Bool, true, false, Option, None, Some, refl, sym, ap, ◌∙◌}
-use Rattle.std.specs.Prelude.{IsTrue, is_some, option_and_then}
+use Rattle.std.proofs.Common.{◌≡◌, ℕ, List, Bool, true, false, Option, None, Some, refl, sym, ap, ◌∙◌, eqb-true}
+use Rattle.std.specs.Prelude.{IsTrue, not, ◌==◌, is_some, option_and_then}
 use Rattle.std.specs.List.{list_all, list_any}
 use Rattle.s3_base.specs.declared.node_kind.Kind.{Kind}
 use Rattle.s3_base.specs.declared.node_kind.Kind.TheVariants as kinds
@@ -9,13 +9,14 @@ use Rattle.plain_tree.specs.Tree.{Node, Tree, node_at, entry_of}
 use Rattle.plain_tree.specs.Checks.{fails_with, node_check, directory_check, free_check}
 use Rattle.plain_tree.specs.Entries.{is_folder}
 use Rattle.plain_tree.specs.Entries as entries
-use Rattle.s3_rows.specs.Rows.{Inode}
+use Rattle.s3_rows.specs.Rows.{Inode, Content}
 use Rattle.s3_rows.specs.Tables.{Tables}
-use Rattle.s3_rows.specs.Selections.{inode_at}
+use Rattle.s3_rows.specs.Selections.{inode_at, bytes_of_name}
 use Rattle.s3_rows.specs.Validity.{IsValid, finds_of_entry, has_inode, is_directory}
-use Rattle.row_lemmas.proofs.Tests.{find_from_list_any}
+use Rattle.row_lemmas.proofs.Tests.{find_from_list_any, find_passes, list_all_from_list_any}
 use Rattle.tree_rows.specs.Shapes.{Represents}
 use Rattle.tree_rows.proofs.Listed.{is_entry}
+use Rattle.tree_rows.proofs.Rooted.{own_entry}
 use Rattle.tree_rows.proofs.Whole.{folder_is, entry_made}
 
 folder_passes : (found : Option Node) → node_check found ≡ None → directory_check found ≡ None → IsTrue (is_folder found)
@@ -51,6 +52,23 @@ is_entry_none t whole same finds x folder name none = by_case (list_any (is_entr
     by_case true any =
         let found = find_from_list_any (is_entry t x name) t.contents any in
         let clash : Some found.0.inode ≡ None = sym (entry_made t whole same finds x name found.0 folder found.1) ∙ none in
+        absurd (cc clash)
+    by_case false other = refl
+
+-- no row is an entry in what has none in the tree
+pub no_entries_in : (t : Tables) (whole : Tree) → IsValid t → Represents t whole → (x : ℕ) → ((name : List ℕ) → entries.entry_at whole x name ≡ None)
+    → IsTrue (list_all (λ (c : Content). not (c.parent == x)) t.contents)
+no_entries_in t whole v same x none =
+    list_all_from_list_any (λ (c : Content). c.parent == x) t.contents (by_case (list_any (λ (c : Content). c.parent == x) t.contents) refl)
+  where
+    by_case : (b : Bool) → list_any (λ (c : Content). c.parent == x) t.contents ≡ b → IsTrue (not b)
+    by_case true any =
+        let found = find_from_list_any (λ (c : Content). c.parent == x) t.contents any in
+        let c : Content = found.0 in
+        let parent_is : c.parent ≡ x = eqb-true c.parent x (find_passes (λ (y : Content). y.parent == x) t.contents c found.1) in
+        let text : List ℕ = bytes_of_name t c.name_id in
+        let clash : Some c.inode ≡ None =
+        sym (own_entry t v whole same (λ (y : Content). y.parent == x) c found.1) ∙ ap (λ y. entries.entry_at whole y text) parent_is ∙ none text in
         absurd (cc clash)
     by_case false other = refl
 

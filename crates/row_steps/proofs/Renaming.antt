@@ -1,31 +1,31 @@
 -- A Rename: its passed checks give what moves, and its effect is the entry moved.
-use Rattle.std.proofs.Common.{◌≡◌, ◌≤◌, ℕ, ◌+◌, List, [], ◌∷◌, ◌++◌, true, false, cond, None, Some, refl, sym, ap, ◌∙◌, subst, arith}
-use Rattle.std.specs.Prelude.{◌==◌}
+use Rattle.std.proofs.Common.{◌≡◌, ℕ, List, [], Bool, true, false, cond, None, Some, refl, sym, ap, ◌∙◌, subst, arith}
+use Rattle.std.specs.Prelude.{IsTrue, not, ◌||◌, ◌==◌, nat_lt}
+use Rattle.std.specs.List.{list_all}
 use Rattle.op_frames.specs.declared.operation.Op.TheVariants as ops
 use Rattle.plain_tree.specs.Tree.{Tree}
 use Rattle.plain_tree.specs.Checks.{first_failure}
-use Rattle.plain_tree.specs.Entries.{entry_at}
+use Rattle.plain_tree.specs.Entries.{entry_at, is_open}
 use Rattle.plain_tree.specs.Operations.{checks, effect}
 use Rattle.plain_tree.specs.Subtrees.{dropped, is_same, moved_entry}
 use Rattle.plain_tree.specs.WellFormed.{IsWellFormed}
-use Rattle.s3_rows.specs.declared.change.Change.TheVariants as changes
-use Rattle.s3_rows.specs.Rows.{Inode, Name, Content, Parameters}
+use Rattle.s3_rows.specs.Rows.{Inode, Name, Content, InodeBlock, Slot, Parameters}
 use Rattle.s3_rows.specs.Tables.{Tables}
 use Rattle.s3_rows.specs.Batches.{tables_after}
 use Rattle.s3_rows.specs.Selections.{inode_at, name_of_bytes}
 use Rattle.s3_rows.specs.Selections as selections
 use Rattle.s3_rows.specs.Validity.{IsValid}
 use Rattle.tree_laws.proofs.Walk.Passed.{CanRename, can_move, can_rename}
+use Rattle.tree_laws.proofs.WellFormed.{IsWellFormed-effect}
 use Rattle.tree_rows.specs.Shapes.{Represents}
 use Rattle.ref_counts.specs.Names.{Raised, raised}
-use Rattle.ref_counts.specs.Plans.{IsStep}
-use Rattle.row_steps.specs.RowChanges.{counted_row, dropping, moving, name_of_replaced, other_name, same_name}
+use Rattle.ref_counts.specs.Plans.{AreNamed, IsStep}
+use Rattle.row_steps.specs.RowChanges.{dropping, moving, other_name, replacing, same_name}
 use Rattle.row_steps.proofs.Leaving.{IsLeaving, entry_is}
 use Rattle.row_steps.proofs.MovedNames.{IsStep-other_name, IsStep-same_name}
 use Rattle.row_steps.proofs.Moving.{IsMoving, final}
-use Rattle.tree_laws.proofs.WellFormed.{IsWellFormed-effect}
 use Rattle.row_steps.proofs.Place.{kind_there}
-use Rattle.row_steps.proofs.Replacing.{IsStep-replacing}
+use Rattle.row_steps.proofs.Replacing.{IsStep-replacing, lives_is}
 
 pub itself_step : (t : Tables) (whole : Tree) (pass parent new_parent now : ℕ) (name new_name : List ℕ) → IsValid t → Represents t whole
     → is_same (entry_at whole new_parent new_name) (entry_at whole parent name) ≡ true
@@ -102,7 +102,7 @@ module _ (t : Tables) (whole : Tree) (p : Parameters) (d d2 r : Inode) (c : Cont
         subst (λ (next : Tree). IsStep t (tables_after (moving d d2 c (other_name n more) r now) t) next 1) (sym to_new_is)
         (IsStep-other_name t whole p d d2 r c n now parent name new_parent new_name (is_moving apart) more used absent well_after)
 
-  -- over an entry of another inode, which has other entries still
+  -- over an entry of another inode
   module _ (r2 : Inode) (c2 : Content) (n2 : Name) (new_bytes : name_of_bytes t new_name ≡ Some n2) (new_entry : selections.entry_at t new_parent n2.id ≡ Some c2)
       (new_row : inode_at t c2.inode ≡ Some r2) (other : (c2.inode == c.inode) ≡ false) where
     replaced : IsLeaving t whole p d2 r2 c2 n2 new_parent new_name
@@ -129,14 +129,15 @@ module _ (t : Tables) (whole : Tree) (p : Parameters) (d d2 r : Inode) (c : Cont
         ≡ dropped now (Some c2.inode) (final t whole p d d2 r c n now parent name new_parent new_name (is_moving differ))
     over_is = effect_is differ ∙ ap (λ e. dropped now e (final t whole p d d2 r c n now parent name new_parent new_name (is_moving differ))) there
 
-    pub replaced_moved : (count : ℕ) → count + 1 ≡ r2.refcount → 1 ≤ count
-        → IsStep t (tables_after (moving d d2 c (name_of_replaced n c2) r now ++ changes.PutInode (counted_row count now r2) ∷ []) t)
-        (effect whole pass (ops.Rename parent name new_parent new_name) now) 0
-    replaced_moved count one_less some =
-        subst (λ (next : Tree). IsStep t (tables_after (moving d d2 c (name_of_replaced n c2) r now ++ changes.PutInode (counted_row count now r2) ∷ []) t) next 0)
-        (sym over_is)
-        (IsStep-replacing t whole p d d2 r r2 c c2 n n2 now parent name new_parent new_name (is_moving differ) replaced count one_less some
-        (subst IsWellFormed over_is (IsWellFormed-effect whole pass now (ops.Rename parent name new_parent new_name) well passes)))
+    pub replaced_moved : (held : Bool) → IsTrue (list_all (λ (x : InodeBlock). not (x.inode == r2.id)) t.inode_blocks)
+        → IsTrue (list_all (λ (x : Slot). not (x.inode == r2.id)) t.slots) → is_open whole c2.inode ≡ held
+        → (AreNamed t → AreNamed (tables_after (replacing (nat_lt 1 r2.refcount || held) t d d2 r r2 c c2 n now) t))
+        → IsStep t (tables_after (replacing (nat_lt 1 r2.refcount || held) t d d2 r r2 c c2 n now) t) (effect whole pass (ops.Rename parent name new_parent new_name) now) 0
+    replaced_moved held blocks slots held_is named =
+        subst (λ (next : Tree). IsStep t (tables_after (replacing (nat_lt 1 r2.refcount || held) t d d2 r r2 c c2 n now) t) next 0) (sym over_is)
+        (IsStep-replacing t whole p d d2 r r2 c c2 n n2 now parent name new_parent new_name (is_moving differ) replaced blocks slots (nat_lt 1 r2.refcount || held)
+        (lives_is t whole p d d2 r r2 c c2 n n2 now parent name new_parent new_name (is_moving differ) replaced held held_is)
+        (subst IsWellFormed over_is (IsWellFormed-effect whole pass now (ops.Rename parent name new_parent new_name) well passes)) named)
 
 pub same_name_step : (t : Tables) (whole : Tree) (p : Parameters) (d d2 r : Inode) (c : Content) (n : Name) (pass parent new_parent now : ℕ) (name : List ℕ)
     → IsValid t → IsWellFormed whole → Represents t whole → t.params ≡ Some p → inode_at t parent ≡ Some d → inode_at t new_parent ≡ Some d2
@@ -156,15 +157,15 @@ pub other_name_step : (t : Tables) (whole : Tree) (p : Parameters) (d d2 r : Ino
 other_name_step t whole p d d2 r c n more pass parent new_parent now name new_name v well same made found new_found bytes entry row passes absent used =
     other_name_moved t whole p d d2 r c n pass parent new_parent now name new_name v well same made found new_found bytes entry row passes absent more used
 
-pub replaced_step : (t : Tables) (whole : Tree) (p : Parameters) (d d2 r r2 : Inode) (c c2 : Content) (n n2 : Name) (pass parent new_parent now count : ℕ)
-    (name new_name : List ℕ)
+pub replaced_step : (t : Tables) (whole : Tree) (p : Parameters) (d d2 r r2 : Inode) (c c2 : Content) (n n2 : Name) (pass parent new_parent now : ℕ)
+    (name new_name : List ℕ) (held : Bool)
     → IsValid t → IsWellFormed whole → Represents t whole → t.params ≡ Some p → inode_at t parent ≡ Some d → inode_at t new_parent ≡ Some d2
     → name_of_bytes t name ≡ Some n → selections.entry_at t parent n.id ≡ Some c → inode_at t c.inode ≡ Some r
     → name_of_bytes t new_name ≡ Some n2 → selections.entry_at t new_parent n2.id ≡ Some c2 → inode_at t c2.inode ≡ Some r2
-    → first_failure (checks whole pass (ops.Rename parent name new_parent new_name)) ≡ None → (c2.inode == c.inode) ≡ false
-    → count + 1 ≡ r2.refcount → 1 ≤ count
-    → IsStep t (tables_after (moving d d2 c (name_of_replaced n c2) r now ++ changes.PutInode (counted_row count now r2) ∷ []) t)
-    (effect whole pass (ops.Rename parent name new_parent new_name) now) 0
-replaced_step t whole p d d2 r r2 c c2 n n2 pass parent new_parent now count name new_name v well same made found new_found bytes entry row new_bytes new_entry new_row passes other one_less some =
+    → IsTrue (list_all (λ (x : InodeBlock). not (x.inode == r2.id)) t.inode_blocks) → IsTrue (list_all (λ (x : Slot). not (x.inode == r2.id)) t.slots)
+    → is_open whole c2.inode ≡ held → first_failure (checks whole pass (ops.Rename parent name new_parent new_name)) ≡ None → (c2.inode == c.inode) ≡ false
+    → (AreNamed t → AreNamed (tables_after (replacing (nat_lt 1 r2.refcount || held) t d d2 r r2 c c2 n now) t))
+    → IsStep t (tables_after (replacing (nat_lt 1 r2.refcount || held) t d d2 r r2 c c2 n now) t) (effect whole pass (ops.Rename parent name new_parent new_name) now) 0
+replaced_step t whole p d d2 r r2 c c2 n n2 pass parent new_parent now name new_name held v well same made found new_found bytes entry row new_bytes new_entry new_row blocks slots held_is passes other named =
     replaced_moved t whole p d d2 r c n pass parent new_parent now name new_name v well same made found new_found bytes entry row passes
-    r2 c2 n2 new_bytes new_entry new_row other count one_less some
+    r2 c2 n2 new_bytes new_entry new_row other held blocks slots held_is named

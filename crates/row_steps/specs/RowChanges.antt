@@ -107,3 +107,11 @@ adding_attr r more value now = more.changes ++ setting_attr r more.id value now
 -- one that is removed is deleted, its inode stamped, and its name used once less
 abbrev pub removing_attr : Inode → Attr → Name → ℕ → List Change
 removing_attr r a n now = changes.DeleteAttr a.inode a.name_id ∷ changes.PutInode (stamped_row now r) ∷ lowered n
+
+-- an entry that moves to the place of another, whose inode counts one link less where another entry or a handle keeps it, and goes
+-- where none does
+abbrev pub replacing : Bool → Tables → Inode → Inode → Inode → Inode → Content → Content → Name → ℕ → List Change
+replacing kept t directory new_directory r replaced c old n now =
+    moving directory new_directory c (name_of_replaced n old) r now
+    ++ (if kept then changes.PutInode (counted_row (replaced.refcount - 1) now replaced) ∷ []
+    else removal t replaced.id (tables_after (moving directory new_directory c (name_of_replaced n old) r now) t))
