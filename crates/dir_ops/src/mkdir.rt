@@ -1,5 +1,5 @@
 //! The plan of a new directory.
-ghost use Rattle.std.specs.Prelude.{◌≡◌, ◌<◌, ◌^◌, ℕ, None, Ok, IfOk, Option, List};
+ghost use Rattle.std.specs.Prelude.{◌≡◌, ◌<◌, ◌^◌, ℕ, None, Ok, IfOk};
 ghost use Rattle.s3_base.specs.Faults.{HasCause};
 ghost use Rattle.op_frames.specs.declared.operation.Op.TheVariants as ops;
 ghost use Rattle.plain_tree.specs.Tree.{Tree};
