@@ -20,7 +20,7 @@ use Rattle.s3_rows.specs.Batches.{tables_after}
 use Rattle.s3_rows.specs.Selections.{inode_at, name_at, entry_at}
 use Rattle.s3_rows.specs.Counts.{listed_inode_count}
 use Rattle.s3_rows.specs.Validity.{any_kind, has_inode}
-use Rattle.row_lemmas.proofs.Tests.{find_passes_all, is_eq-nat_cmp, is_some-option_map, list_all_weaker}
+use Rattle.row_lemmas.proofs.Tests.{find_passes_all, is_eq-nat_cmp, is_some-option_map, list_all_weaker, pair_parts}
 use Rattle.row_lemmas.proofs.Keyed.Put.{list_all-put, row_at-put_other, row_at-put_same}
 use Rattle.row_lemmas.proofs.Keyed.Without.{list_all-without, put-without, row_at-without_other}
 use Rattle.row_lemmas.proofs.Tables.{pair_cmp_total, tables_after-tables_after}
@@ -39,7 +39,7 @@ use Rattle.row_steps.proofs.Living.{FindsChildren, is_named-owes, is_open-change
 use Rattle.row_steps.proofs.Less.{IsStep-less}
 use Rattle.row_steps.proofs.MovedNames.{fewer, less, represents_gone, unnamed}
 use Rattle.row_steps.proofs.Moving.{IsMoving, is_any, is_any-put, at_new_parent, at_parent, child, children, entry, final, is_open-final, left, lifted, moved, moved_there, row, touched_rows}
-use Rattle.row_steps.proofs.Owed.Contents.{Owes-without_content, pair_parts}
+use Rattle.row_steps.proofs.Owed.Contents.{Owes-without_content}
 use Rattle.row_steps.proofs.Owed.Ends.{Owes-times}
 use Rattle.row_steps.proofs.Owed.Inodes.{Owes-put_inode_less, Owes-put_inode_same, times_first, times_other}
 use Rattle.row_steps.proofs.Owed.Names.{bytes_of_row}
