@@ -1,4 +1,5 @@
 -- One tree of names without orphans: what a tree is apart from bytes and times, and what each operation does to that.
+pub mod Above
 pub mod Below
 pub mod Branch
 pub mod Copy

@@ -17,7 +17,9 @@ mod well_formed;
 
 pub use changes::changes_stay_in_one_node;
 pub use copies::{copies_are_copies, copy_is_a_copy, sides_stay_apart};
-pub use directories::{directories_stay_one_tree, orphans_stay_open_files};
+pub use directories::{
+    directories_lie_below_their_parents, directories_stay_one_tree, orphans_stay_open_files,
+};
 pub use entries::{entries_name_nodes, names_stay_legal, renamed_to_itself_is_as_before};
 pub use files::{truncated_is_cut, unwritten_files_keep_their_bytes, written_is_read};
 pub use limits::limits_stay;
