@@ -9,3 +9,4 @@ pub mod Mode
 pub mod Order
 pub mod Reading
 pub mod Subtree
+pub mod Swap
