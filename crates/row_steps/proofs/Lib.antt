@@ -1,13 +1,16 @@
 pub mod Attributes
 pub mod Dropping
+pub mod Entered
 pub mod Entering
 pub mod Leaving
 pub mod LeftFiles
 pub mod Less
+pub mod Linking
 pub mod Living
 pub mod Making
 pub mod MovedNames
 pub mod Moving
+pub mod NewInode
 pub mod NewNodes
 pub mod OldFiles
 pub mod OldNodes

@@ -6,7 +6,7 @@ use Rattle.s3_base.specs.declared.node_kind.Kind.{Kind}
 use Rattle.s3_base.specs.declared.node_kind.Kind.TheVariants as kinds
 use Rattle.plain_tree.specs.Tree as tree
 use Rattle.plain_tree.specs.Tree.{Node, Tree, node_at, entry_of}
-use Rattle.plain_tree.specs.Checks.{fails_with, node_check, directory_check, free_check}
+use Rattle.plain_tree.specs.Checks.{fails_with, node_check, directory_check, no_directory_check, free_check}
 use Rattle.plain_tree.specs.Entries.{is_folder}
 use Rattle.plain_tree.specs.Entries as entries
 use Rattle.s3_rows.specs.Rows.{Inode, Content}
@@ -14,6 +14,7 @@ use Rattle.s3_rows.specs.Tables.{Tables}
 use Rattle.s3_rows.specs.Selections.{inode_at, bytes_of_name}
 use Rattle.s3_rows.specs.Validity.{IsValid, finds_of_entry, has_inode, is_directory}
 use Rattle.row_lemmas.proofs.Tests.{find_from_list_any, find_passes, list_all_from_list_any}
+use Rattle.tree_laws.proofs.Walk.Passed.{not_failed}
 use Rattle.tree_rows.specs.Shapes.{Represents}
 use Rattle.tree_rows.proofs.Listed.{is_entry}
 use Rattle.tree_rows.proofs.Rooted.{own_entry}
@@ -85,3 +86,20 @@ module _ (t : Tables) (whole : Tree) (v : IsValid t) (same : Represents t whole)
   pub free_there : (name : List ℕ) → node_check (node_at whole x) ≡ None → directory_check (node_at whole x) ≡ None
       → free_check (node_at whole x) name ≡ None → list_any (is_entry t x name) t.contents ≡ false
   free_there name there is free = is_entry_none t whole same v.rows.entries x (folder_there there is) name (free_passes (node_at whole x) name free)
+
+-- what is no directory is not one
+pub apart_from_folder : (t : Tables) (x y : ℕ) → IsTrue (has_inode is_directory t x) → has_inode is_directory t y ≡ false → (x == y) ≡ false
+apart_from_folder t x y folder other = by_case (x == y) refl
+  where
+    by_case : (b : Bool) → (x == y) ≡ b → b ≡ false
+    by_case true is =
+        let clash : true ≡ false = sym folder ∙ ap (has_inode is_directory t) (eqb-true x y is) ∙ other in
+        absurd (cc clash)
+    by_case false is = refl
+
+no_folder : (found : Option Node) → no_directory_check 1 found ≡ None → is_folder found ≡ false
+no_folder None passes = refl
+no_folder (Some node) passes = not_failed 1 (entries.is_directory node.content) passes
+
+pub no_folder_there : (t : Tables) (whole : Tree) → Represents t whole → (x : ℕ) → no_directory_check 1 (node_at whole x) ≡ None → has_inode is_directory t x ≡ false
+no_folder_there t whole same x passes = sym (folder_is t whole same x) ∙ no_folder (node_at whole x) passes

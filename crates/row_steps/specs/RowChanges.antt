@@ -1,5 +1,5 @@
 -- The changes of rows that operations are made of.
-use Rattle.std.specs.Prelude.{ℕ, ◌+◌, ◌-◌, List, [], ◌∷◌, ◌++◌, Bool, false, if◌then◌else◌}
+use Rattle.std.specs.Prelude.{ℕ, ◌+◌, ◌-◌, List, [], ◌∷◌, ◌++◌, length, Bool, false, if◌then◌else◌}
 use Rattle.s3_base.specs.declared.node_kind.Kind.TheVariants as kinds
 use Rattle.s3_rows.specs.declared.change.Change.{Change}
 use Rattle.s3_rows.specs.declared.change.Change.TheVariants as changes
@@ -43,11 +43,21 @@ new_file_row id mode uid gid now = record {
 abbrev pub new_directory_row : ℕ → ℕ → ℕ → ℕ → ℕ → Inode
 new_directory_row id mode uid gid now = record (new_file_row id mode uid gid now) { kind = kinds.Directory }
 
+-- and of a symbolic link, with all permissions and the length of its target
+abbrev pub new_link_row : ℕ → List ℕ → ℕ → ℕ → ℕ → Inode
+new_link_row id target uid gid now = record (new_file_row id 511 uid gid now) { kind = kinds.Link; size = length target }
+
 -- A number is drawn and the name used once more; the entry names the new inode, and the directory is touched.
 abbrev pub creation : Parameters → Inode → Raised → Inode → ℕ → List Change
 creation p directory more new now =
     changes.SetParams (drawn p) ∷ more.changes
     ++ changes.PutContent (record { parent = directory.id; name_id = more.id; inode = new.id }) ∷ changes.PutInode new ∷ changes.PutInode (touched_row now directory) ∷ []
+
+-- a new symbolic link, and its target
+abbrev pub link_creation : Parameters → Inode → Raised → List ℕ → ℕ → ℕ → ℕ → List Change
+link_creation p directory more target uid gid now =
+    creation p directory more (new_link_row p.next_inode target uid gid now) now
+    ++ changes.PutTarget (record { inode = p.next_inode; target = target }) ∷ []
 
 -- an entry that goes is deleted, its directory touched, and its name used once less
 abbrev pub dropping : Inode → Content → Name → ℕ → List Change
@@ -115,3 +125,7 @@ replacing kept t directory new_directory r replaced c old n now =
     moving directory new_directory c (name_of_replaced n old) r now
     ++ (if kept then changes.PutInode (counted_row (replaced.refcount - 1) now replaced) ∷ []
     else removal t replaced.id (tables_after (moving directory new_directory c (name_of_replaced n old) r now) t))
+
+-- an inode counts one link more, and the entry that is it comes
+abbrev pub linking : Inode → Inode → Raised → ℕ → List Change
+linking directory r more now = changes.PutInode (counted_row (r.refcount + 1) now r) ∷ entering directory more r.id now

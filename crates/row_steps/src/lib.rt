@@ -20,9 +20,10 @@ pub use entries::{
 };
 pub use renames::renames_are_steps;
 pub use steps::{
-    left_files_are_steps, new_directories_are_steps, new_files_are_steps, new_rows_are_found,
-    old_directories_are_steps, old_files_are_steps, old_links_are_steps,
-    removed_attributes_are_steps, set_attributes_are_steps, tables_after_operations_are_valid,
+    left_files_are_steps, links_are_steps, new_directories_are_steps, new_files_are_steps,
+    new_rows_are_found, old_directories_are_steps, old_files_are_steps, old_links_are_steps,
+    removed_attributes_are_steps, set_attributes_are_steps, symlinks_are_steps,
+    tables_after_operations_are_valid,
 };
 pub use trees::{
     attributes_are_attributes, entries_are_entries, name_rows_leave_the_tree, rows_are_nodes,

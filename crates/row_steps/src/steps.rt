@@ -22,7 +22,7 @@ ghost use Rattle.ref_counts.specs.Names.{Raised, raised};
 ghost use Rattle.ref_counts.specs.Plans.{AreNamed, IsStep};
 ghost use Rattle.ref_counts.specs.Removals.{removal, removals};
 ghost use Rattle.row_steps.specs.Owed.{IsBare, Owes};
-ghost use Rattle.row_steps.specs.RowChanges.{adding_attr, creation, dropping, new_directory_row, new_file_row, removing_attr, setting_attr, settling, unlinking, with_drawn};
+ghost use Rattle.row_steps.specs.RowChanges.{adding_attr, creation, dropping, link_creation, linking, new_directory_row, new_file_row, removing_attr, setting_attr, settling, unlinking, with_drawn};
 
 /// Where no check of an operation on a well-formed tree fails, tables that owe nothing and represent the tree after it are valid.
 pub fn tables_after_operations_are_valid()
@@ -45,6 +45,23 @@ pub fn new_directories_are_steps()
         → IsValid t → HasUniqueNames t → IsWellFormed whole → Represents t whole → t.params ≡ Some p → inode_at t parent ≡ Some directory
         → first_failure (checks whole pass (ops.Mkdir parent name mode uid gid)) ≡ None → raised (with_drawn p t) name ≡ Some more
         → IsStep t (tables_after (creation p directory more (new_directory_row p.next_inode mode uid gid now) now) t) (effect whole pass (ops.Mkdir parent name mode uid gid) now) 1 }
+{}
+
+/// And so it is where no check of a Symlink fails; the target is put with it.
+pub fn symlinks_are_steps()
+    ensures { (t : Tables) (whole : Tree) (p : Parameters) (directory : Inode) (more : Raised) (pass parent uid gid now : ℕ) (name target : List ℕ)
+        → IsValid t → HasUniqueNames t → IsWellFormed whole → Represents t whole → t.params ≡ Some p → inode_at t parent ≡ Some directory
+        → first_failure (checks whole pass (ops.Symlink parent name target uid gid)) ≡ None → raised (with_drawn p t) name ≡ Some more
+        → IsStep t (tables_after (link_creation p directory more target uid gid now) t) (effect whole pass (ops.Symlink parent name target uid gid) now) 1 }
+{}
+
+/// Where no check of a Link fails, and its name may be used once more, its batch leaves valid tables that represent the tree with
+/// an entry more of the file.
+pub fn links_are_steps()
+    ensures { (t : Tables) (whole : Tree) (p : Parameters) (directory r : Inode) (more : Raised) (pass inode parent now : ℕ) (name : List ℕ)
+        → IsValid t → HasUniqueNames t → IsWellFormed whole → Represents t whole → t.params ≡ Some p → inode_at t parent ≡ Some directory
+        → inode_at t inode ≡ Some r → first_failure (checks whole pass (ops.Link inode parent name)) ≡ None → raised t name ≡ Some more
+        → IsStep t (tables_after (linking directory r more now) t) (effect whole pass (ops.Link inode parent name) now) 1 }
 {}
 
 /// The row of a new inode is found after its batch.

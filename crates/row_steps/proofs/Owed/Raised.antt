@@ -7,7 +7,7 @@ use Rattle.std.proofs.lemmas.Bool.{and_parts}
 use Rattle.std.specs.FinMap.{nat_cmp-IsAntisymmetric, slice_cmp-IsAntisymmetric}
 use Rattle.std.specs.Ordering.{is_eq}
 use Rattle.s3_rows.specs.declared.change.Change.TheVariants as changes
-use Rattle.s3_rows.specs.Rows.{Inode, Name, Content, Attr, Parameters}
+use Rattle.s3_rows.specs.Rows.{Inode, Name, Content, Target, Attr, Parameters}
 use Rattle.s3_rows.specs.Keyed.{has_key, put}
 use Rattle.s3_rows.specs.Tables.{Tables, by_name}
 use Rattle.s3_rows.specs.Batches.{tables_after}
@@ -32,9 +32,9 @@ pub record IsRaise (t : Tables) (p : Parameters) (links uses : List ℕ) (more :
   pub row : Name
   pub next : ℕ
   pub after : tables_after more.changes t ≡ record t { params = Some (record p { next_name = next }); names = put by_name row t.names }
-  -- also where inodes were changed before
-  pub after_inodes : (inodes : List Inode) → tables_after more.changes (record t { inodes = inodes })
-      ≡ record t { params = Some (record p { next_name = next }); names = put by_name row t.names; inodes = inodes }
+  -- also where inodes and targets were changed before
+  pub after_rows : (inodes : List Inode) (targets : List Target) → tables_after more.changes (record t { inodes = inodes; targets = targets })
+      ≡ record t { params = Some (record p { next_name = next }); names = put by_name row t.names; inodes = inodes; targets = targets }
   pub id : row.id ≡ more.id
   pub bytes : row.name ≡ name
   pub kept : (old : Name) → name_at t row.id ≡ Some old → old.name ≡ row.name
@@ -70,7 +70,7 @@ module _ (t : Tables) (p : Parameters) (links uses : List ℕ) (name : List ℕ)
       row = up;
       next = p.next_name;
       after = λ i. record t { params = (o.made) i; names = put by_name up t.names };
-      after_inodes = λ inodes i. record t { params = (o.made) i; names = put by_name up t.names; inodes = inodes };
+      after_rows = λ inodes targets i. record t { params = (o.made) i; names = put by_name up t.names; inodes = inodes; targets = targets };
       id = refl;
       bytes = one_text n.name name (find_passes (has_bytes name) t.names n found);
       kept =
@@ -134,7 +134,7 @@ module _ (t : Tables) (p : Parameters) (links uses : List ℕ) (name : List ℕ)
       row = first;
       next = p.next_name + 1;
       after = refl;
-      after_inodes = λ inodes. refl;
+      after_rows = λ inodes targets. refl;
       id = refl;
       bytes = refl;
       kept =
