@@ -1,25 +1,30 @@
 -- Nodes of a tree and the rows of tables that represent it, and what checks say of both.
-use Rattle.std.proofs.Common.{◌≡◌, ℕ, Option, None, Some, refl, sym, ap, ◌∙◌}
-use Rattle.std.specs.Prelude.{not, option_map, option_and_then, unwrap_or}
+use Rattle.std.proofs.Common.{◌≡◌, ℕ, List, Bool, true, false, Option, None, Some, refl, sym, ap, ◌∙◌}
+use Rattle.std.specs.Prelude.{◌==◌, ◌||◌, not, is_some, option_map, option_and_then, unwrap_or}
+use Rattle.std.specs.List.{list_any}
+use Rattle.s3_base.specs.Numbers.{root}
 use Rattle.s3_base.specs.declared.node_kind.Kind.{Kind}
 use Rattle.s3_base.specs.declared.node_kind.Kind.TheVariants as kinds
-use Rattle.s3_base.specs.Errors.{ebadf, enotdir, eisdir, einval}
+use Rattle.s3_base.specs.Errors.{ebadf, eexist, enoent, enotdir, eisdir, einval}
 use Rattle.plain_tree.specs.Tree as tree
-use Rattle.plain_tree.specs.Tree.{Node, Tree, node_at}
+use Rattle.plain_tree.specs.Tree.{Node, Tree, node_at, entry_of}
 use Rattle.plain_tree.specs.Attributes.{kind_of}
-use Rattle.plain_tree.specs.Entries.{is_directory}
+use Rattle.plain_tree.specs.Entries.{is_directory, is_named}
 use Rattle.plain_tree.specs.Files.{bytes_of, file_at}
-use Rattle.plain_tree.specs.Checks.{fails_with, node_check, directory_check, file_check, link_check, no_directory_check, lock_check, open_check, ids_check}
+use Rattle.plain_tree.specs.Checks.{fails_with, node_check, directory_check, file_check, link_check, no_directory_check, lock_check, free_check, open_check, ids_check}
 use Rattle.s3_rows.specs.Rows.{Inode, Parameters}
 use Rattle.s3_rows.specs.Tables.{Tables}
 use Rattle.s3_rows.specs.Selections.{inode_at}
-use Rattle.s3_rows.specs.Validity.{is_regular, is_link}
+use Rattle.s3_rows.specs.Validity.{IsValid, is_regular, is_link}
 use Rattle.s3_rows.specs.Validity as rows
 use Rattle.tree_rows.specs.Shapes.{NodeShape, TreeShape, shape_of_node, node_of_row, Represents}
 use Rattle.tree_rows.proofs.Attributed.{kind_there}
+use Rattle.tree_rows.proofs.Listed.{is_entry}
 use Rattle.tree_rows.proofs.Replaced.{node_of}
+use Rattle.tree_rows.proofs.Rooted.{named_absent, named_there}
 use Rattle.tree_rows.proofs.Shaped.{found_alike}
-use Rattle.op_checks.specs.Rows.{row_check, directory_row_check, file_row_check, link_row_check, no_directory_row_check, lock_row_check, open_row_check, ids_row_check}
+use Rattle.tree_rows.proofs.Whole.{has_entry_is}
+use Rattle.op_checks.specs.Rows.{row_check, directory_row_check, file_row_check, link_row_check, no_directory_row_check, lock_row_check, named_row_check, open_row_check, ids_row_check}
 
 -- ---- kinds
 
@@ -103,6 +108,29 @@ module _ (t : Tables) (whole : Tree) (same : Represents t whole) (x : ℕ) where
       by_content (tree.Regular bytes) = refl
       by_content (tree.Directory entries) = refl
       by_content (tree.Link target) = refl
+
+-- ---- names
+
+module _ (t : Tables) (whole : Tree) (v : IsValid t) (same : Represents t whole) (x : ℕ) where
+  pub named_check-row : fails_with enoent (not (is_named whole x)) ≡ named_row_check (inode_at t x)
+  named_check-row = by_row (inode_at t x) refl
+    where
+      twice : (b : Bool) → not (not b) ≡ b
+      twice true = refl
+      twice false = refl
+
+      by_row : (found : Option Inode) → inode_at t x ≡ found → fails_with enoent (not (is_named whole x)) ≡ named_row_check found
+      by_row None is = ap (λ b. fails_with enoent (not b)) (named_absent t whole x v same is)
+      by_row (Some r) is =
+          ap (λ b. fails_with enoent (not b)) (named_there t whole x r v same is) ∙ ap (fails_with enoent) (twice (r.id == root || r.refcount == 0))
+
+  -- a name is taken where an entry of the directory has it
+  pub free_check-row : (name : List ℕ) → free_check (node_at whole x) name ≡ fails_with eexist (list_any (is_entry t x name) t.contents)
+  free_check-row name = by_node (node_at whole x) ∙ ap (fails_with eexist) (has_entry_is t whole same v.rows.entries x name)
+    where
+      by_node : (found : Option Node) → free_check found name ≡ fails_with eexist (is_some (option_and_then (λ node. entry_of node.content name) found))
+      by_node None = refl
+      by_node (Some node) = refl
 
 -- ---- next numbers
 

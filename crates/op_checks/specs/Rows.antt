@@ -1,6 +1,7 @@
 -- The checks on a node, made of its row. Each says of the row what the tree's check says of the node.
-use Rattle.std.specs.Prelude.{ℕ, ◌+◌, ◌^◌, not, nat_lt, Option, None, Some}
+use Rattle.std.specs.Prelude.{ℕ, ◌+◌, ◌^◌, ◌==◌, ◌||◌, not, nat_lt, Option, None, Some}
 use Rattle.s3_base.specs.Errors.{enoent, ebadf, enotdir, eisdir, einval, eperm, enospc}
+use Rattle.s3_base.specs.Numbers.{root}
 use Rattle.s3_base.specs.declared.node_kind.Kind.TheVariants as kinds
 use Rattle.plain_tree.specs.Checks.{fails_with}
 use Rattle.s3_rows.specs.Rows.{Inode, Parameters}
@@ -35,6 +36,11 @@ no_directory_row_check errno (Some r) = fails_with errno (is_directory r.kind)
 abbrev pub lock_row_check : Option Inode → Option ℕ
 lock_row_check None = None
 lock_row_check (Some r) = fails_with eperm r.locked
+
+-- ENOENT where no entry names it: it is the root, or counts none
+abbrev pub named_row_check : Option Inode → Option ℕ
+named_row_check None = Some enoent
+named_row_check (Some r) = fails_with enoent (r.id == root || r.refcount == 0)
 
 -- EBADF where the inode of an open handle is no regular file
 abbrev pub open_row_check : Option Inode → Option ℕ

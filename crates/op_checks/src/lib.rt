@@ -9,7 +9,7 @@ mod values;
 pub use laws::row_checks_are_checks;
 pub use rows::{
     check_attribute, check_directory, check_entry, check_file, check_free, check_hand, check_ids,
-    check_link, check_no_directory, check_node, check_open, check_unlocked,
+    check_link, check_named, check_no_directory, check_node, check_open, check_unlocked,
 };
 pub use values::{
     check_attribute_name, check_cache, check_flag, check_keep, check_mode, check_name, check_page,

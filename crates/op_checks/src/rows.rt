@@ -3,8 +3,9 @@ ghost use Rattle.std.specs.Prelude.{◌≡◌, ◌+◌, ◌<◌, ◌≤◌, ◌^
 ghost use Rattle.s3_base.specs.Errors.{eexist, enoent, enospc};
 ghost use Rattle.plain_tree.specs.Checks.{fails_with, entry_check, attribute_check};
 ghost use Rattle.op_checks.specs.Checks.{Checks};
-ghost use Rattle.op_checks.specs.Rows.{row_check, directory_row_check, file_row_check, link_row_check, no_directory_row_check, lock_row_check, open_row_check, ids_row_check};
+ghost use Rattle.op_checks.specs.Rows.{row_check, directory_row_check, file_row_check, link_row_check, no_directory_row_check, lock_row_check, named_row_check, open_row_check, ids_row_check};
 
+use crate::values::ROOT;
 use s3_base::{Errno, Kind, LIMIT};
 use s3_rows::{AttrRow, InodeRow, Params};
 
@@ -63,6 +64,16 @@ pub fn check_unlocked(row: &InodeRow) -> Result<(), Errno>
 {
     if row.locked {
         return Err(Errno::EPERM);
+    }
+    Ok(())
+}
+
+/// ENOENT where no entry names it.
+pub fn check_named(row: &InodeRow) -> Result<(), Errno>
+    ensures { Checks result (named_row_check (Some row.now)) }
+{
+    if row.id == ROOT || row.refcount == 0 {
+        return Err(Errno::ENOENT);
     }
     Ok(())
 }

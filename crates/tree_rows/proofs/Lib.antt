@@ -2,6 +2,7 @@ pub mod Attributed
 pub mod Lengths
 pub mod Listed
 pub mod LookUps
+pub mod Named
 pub mod NamedAttrs
 pub mod Replaced
 pub mod Rooted

@@ -1,31 +1,29 @@
 -- The parts of a tree of names, for valid tables.
-use Rattle.std.proofs.Common.{◌≡◌, ◌≢◌, ℕ, zero, suc, ◌+◌, List, [], ◌∷◌, Bool, true, false, cond, Option, None, Some, refl, sym, ap, ◌∙◌, subst, arith, ltb-true, leb-true, eqb-true, eq-eqb}
-use Rattle.std.specs.Prelude.{IsTrue, IsSome, not, ◌&&◌, ◌||◌, ◌==◌, length, count_by, sum_by, find, option_map, option_and_then, nat_le, nat_lt}
+use Rattle.std.proofs.Common.{◌≡◌, ◌≢◌, ℕ, zero, suc, List, [], ◌∷◌, Bool, true, false, cond, Option, None, Some, refl, sym, ap, ◌∙◌, subst, arith, ltb-true, leb-true, eqb-true, eq-eqb}
+use Rattle.std.specs.Prelude.{IsTrue, IsSome, not, ◌&&◌, ◌||◌, ◌==◌, length, count_by, find, is_some, option_map, option_and_then, nat_le, nat_lt}
 use Rattle.std.specs.List.{list_all, list_any}
-use Rattle.std.proofs.lemmas.List.Sums.{sum_by-cons}
 use Rattle.std.proofs.lemmas.Cmp.{nat_list_cmp_total}
 use Rattle.std.specs.Cmp.{tied_back, tied_itself}
 use Rattle.std.specs.FinMap.{slice_cmp-IsAntisymmetric, nat_cmp-IsAntisymmetric}
 use Rattle.std.specs.Ordering.{is_eq}
 use Rattle.std.proofs.lemmas.Bool.{and_from, and_parts}
 use Rattle.s3_base.specs.Names.{is_forbidden_name}
-use Rattle.plain_tree.specs.Tree as tree
-use Rattle.plain_tree.specs.Tree.{Node, Tree, node_at}
-use Rattle.plain_tree.specs.Attributes.{names_in}
+use Rattle.plain_tree.specs.Tree.{Tree, node_at}
 use Rattle.plain_tree.specs.Checks.{name_check}
-use Rattle.plain_tree.specs.Entries.{is_folder, entry_at, child_at, entries_of}
+use Rattle.plain_tree.specs.Entries.{is_folder, entry_at, child_at, is_named}
 use Rattle.plain_tree.specs.WellFormed.{HasOneTree, LeadsToRoot, entries_naming}
 use Rattle.s3_rows.specs.Rows.{Inode, Content}
 use Rattle.s3_rows.specs.Keyed.{has_key}
 use Rattle.s3_rows.specs.Tables.{Tables, by_inode}
-use Rattle.s3_rows.specs.Selections.{inode_at, bytes_cmp, bytes_of_name}
+use Rattle.s3_rows.specs.Selections.{inode_at, name_at, bytes_cmp, bytes_of_name}
 use Rattle.s3_rows.specs.Counts.{listed_inode_count}
 use Rattle.s3_base.specs.Numbers.{root}
 use Rattle.s3_rows.specs.Validity.{IsValid, finds_of_entry, has_inode, is_directory, any_kind, have_one_name, differ, has_legal_name, counts_inode, is_named_once, is_below_root, leads_to_root, parent_of, is_lost_and_found, lost_and_found}
-use Rattle.row_lemmas.proofs.Tests.{find_passes, find_passes_all, list_any_from_find, find_from_list_any, list_all_from_list_any, false_from_not, equal_from_is_eq}
-use Rattle.row_lemmas.proofs.Sums.{count_by_none, list_any_from_count_by}
+use Rattle.row_lemmas.proofs.Tests.{find_passes, find_passes_all, list_any_from_find, find_from_list_any, list_all_from_list_any, list_all_weaker, false_from_not, equal_from_is_eq}
+use Rattle.row_lemmas.proofs.Sums.{count_by_none}
 use Rattle.tree_rows.specs.Shapes.{Represents}
 use Rattle.tree_rows.proofs.Listed.{is_entry}
+use Rattle.tree_rows.proofs.Named.{unnamed, is_named-entries_naming}
 use Rattle.tree_rows.proofs.Whole.{folder_is, node_is, entry_found, entry_made, count_is, number_of}
 
 -- of rows of which no two are alike, a test that only rows like c pass finds c
@@ -48,21 +46,6 @@ found_one alike p q (r ∷ rs) c unlike found like passes =
 
 same_bytes : (a b : List ℕ) → IsTrue (is_eq (bytes_cmp a b)) → a ≡ b
 same_bytes a b is = slice_cmp-IsAntisymmetric nat_cmp-IsAntisymmetric a b (equal_from_is_eq (bytes_cmp a b) is)
-
--- ---- unnamed
-
-unnamed_in : (inode : ℕ) (content : tree.Content) → names_in inode content ≡ 0 → list_any (λ entry. entry.1 == inode) (entries_of content) ≡ false
-unnamed_in inode (tree.Directory entries) none = list_any_from_count_by (λ (entry : List ℕ × ℕ). entry.1 == inode) entries none
-unnamed_in inode (tree.Regular bytes) none = refl
-unnamed_in inode (tree.Link target) none = refl
-
-unnamed : (inode : ℕ) (nodes : List (ℕ × Node)) → sum_by (λ e. names_in inode e.1.content) nodes ≡ 0 → list_any (λ e. list_any (λ entry. entry.1 == inode) (entries_of e.1.content)) nodes ≡ false
-unnamed inode [] none = refl
-unnamed inode (e ∷ es) none =
-    let one : ℕ × Node → ℕ = λ x. names_in inode x.1.content in
-    let all : names_in inode e.1.content + sum_by one es ≡ 0 = sym (sum_by-cons one e es) ∙ none in
-    ap (λ b. b || list_any (λ (x : ℕ × Node). list_any (λ (entry : List ℕ × ℕ). entry.1 == inode) (entries_of x.1.content)) es) (unnamed_in inode e.1.content (omega (arith, all)))
-    ∙ unnamed inode es (omega (arith, all))
 
 -- ---- the parts
 
@@ -211,3 +194,45 @@ link_count_is t whole id r v same is other =
     by_case : (b : Bool) → (id == root) ≡ b → cond b 1 (count_by (λ (c : Content). c.inode == id) t.contents) ≡ count_by (λ (c : Content). c.inode == id) t.contents
     by_case true here = absurd (other (eqb-true id root here))
     by_case false here = refl
+
+-- ---- whether an inode has a name
+
+pub named_there : (t : Tables) (whole : Tree) (x : ℕ) (r : Inode) → IsValid t → Represents t whole → inode_at t x ≡ Some r
+    → is_named whole x ≡ not (r.id == root || r.refcount == 0)
+named_there t whole x r v same is = by_case (x == root) refl
+  where
+    own : (x == root) ≡ (r.id == root)
+    own = ap (λ n. n == root) (number_of t x r is)
+
+    by_case : (b : Bool) → (x == root) ≡ b → is_named whole x ≡ not (r.id == root || r.refcount == 0)
+    by_case true here =
+        ap (is_named whole) (eqb-true x root here) ∙ (is_one_tree t v whole same).root_is_unnamed
+        ∙ ap (λ b. not (b || r.refcount == 0)) (sym here ∙ own)
+    by_case false here =
+        let count : r.refcount ≡ entries_naming whole x =
+        link_count_is t whole x r v same is (λ equal.
+        let clash : true ≡ false = sym (eq-eqb x root equal) ∙ here in
+        cc clash) in
+        is_named-entries_naming whole x ∙ ap (λ n. not (n == 0)) (sym count) ∙ ap (λ b. not (b || r.refcount == 0)) (sym here ∙ own)
+
+-- an inode without a row has none
+pub named_absent : (t : Tables) (whole : Tree) (x : ℕ) → IsValid t → Represents t whole → inode_at t x ≡ None → is_named whole x ≡ false
+named_absent t whole x v same none =
+    is_named-entries_naming whole x
+    ∙ ap (λ n. not (n == 0))
+    (count_is t v.rows.entries v.tree.unlike v.ordered.inodes whole same x
+    ∙ count_by_none (λ (c : Content). c.inode == x) t.contents
+    (list_all_weaker (finds_of_entry t) (λ (c : Content). not (c.inode == x)) other t.contents v.rows.entries))
+  where
+    other : (c : Content) → IsTrue (finds_of_entry t c) → IsTrue (not (c.inode == x))
+    other c finds = by_case (c.inode == x) refl
+      where
+        there : IsTrue (has_inode any_kind t c.inode)
+        there = (and_parts (has_inode is_directory t c.parent && is_some (name_at t c.name_id)) (has_inode any_kind t c.inode) finds).1
+
+        by_case : (b : Bool) → (c.inode == x) ≡ b → IsTrue (not b)
+        by_case true here =
+            let clash : false ≡ true =
+            sym (ap (λ (found : Option Inode). elim found [ Some r ↦ true | None ↦ false ]) (ap (inode_at t) (eqb-true c.inode x here) ∙ none)) ∙ there in
+            absurd (cc clash)
+        by_case false here = refl

@@ -1,7 +1,7 @@
 -- Valid tables have one tree of names, with exact counts.
 use Rattle.std.proofs.Common.{◌≡◌, ℕ, List, [], ◌∷◌, Bool, true, false, cond, Option, None, Some, refl, sym, ap, ◌∙◌, subst, eqb-true, rules}
 use Rattle.std.specs.Prelude.{IsTrue, IsSome, not, ◌&&◌, ◌==◌, is_some, count_by, sum_by, find, option_map, option_and_then}
-use Rattle.std.specs.List.{list_all, AllByRecursion}
+use Rattle.std.specs.List.{list_all, list_any, AllByRecursion}
 use Rattle.std.specs.Cmp.{nat_cmp_total}
 use Rattle.std.specs.FinMap.{nat_cmp-IsAntisymmetric}
 use Rattle.std.specs.declared.cmp.Ordering.{Ordering}
@@ -18,7 +18,7 @@ use Rattle.s3_rows.specs.Keyed.{rises}
 use Rattle.s3_rows.specs.Tables.{Tables, by_inode}
 use Rattle.s3_rows.specs.Selections.{inode_at}
 use Rattle.s3_rows.specs.Validity.{finds_of_entry, has_inode, is_directory, any_kind, have_one_name, differ}
-use Rattle.row_lemmas.proofs.Tests.{list_all_weaker, find_passes, false_from_not, is_eq-nat_cmp}
+use Rattle.row_lemmas.proofs.Tests.{list_all_weaker, list_any-find, find_passes, find_passes_all, false_from_not, is_eq-nat_cmp}
 use Rattle.row_lemmas.proofs.Sums.{sum_by_agree, sum_by_comm, count_by_none}
 use Rattle.row_lemmas.proofs.Keyed.RowAt.{row_at_own}
 use Rattle.row_lemmas.proofs.Keyed.Count.{count_by-has_key_there}
@@ -105,6 +105,29 @@ module _ (t : Tables) (whole : Tree) (same : Represents t whole) (finds : IsTrue
           → option_and_then (λ (node : NodeShape). entry_of_shape node.content name) (option_map (node_of_row t) row) ≡ Some c.inode
       by_row None there is = absurd (cc is)
       by_row (Some r) there is = by_kind r there r.kind is
+
+  -- so a directory has a name where a row is its entry
+  pub has_entry_is : (parent : ℕ) (name : List ℕ) → is_some (entry_at whole parent name) ≡ list_any (is_entry t parent name) t.contents
+  has_entry_is parent name = by_row (find (is_entry t parent name) t.contents) refl ∙ sym (list_any-find (is_entry t parent name) t.contents)
+    where
+      folder : (c : Content) → find (is_entry t parent name) t.contents ≡ Some c → IsTrue (has_inode is_directory t parent)
+      folder c there =
+          let own : IsTrue (finds_of_entry t c) = find_passes_all (is_entry t parent name) (finds_of_entry t) t.contents c finds there in
+          let inside : c.parent ≡ parent =
+          eqb-true c.parent parent (and_parts (c.parent == parent) _ (find_passes (is_entry t parent name) t.contents c there)).0 in
+          subst (λ p. IsTrue (has_inode is_directory t p)) inside
+          (and_parts (has_inode is_directory t c.parent) _ (and_parts _ (has_inode any_kind t c.inode) own).0).0
+
+      by_entry : find (is_entry t parent name) t.contents ≡ None → (found : Option ℕ) → entry_at whole parent name ≡ found → is_some found ≡ false
+      by_entry none None is = refl
+      by_entry none (Some inode) is =
+          let row = entry_found parent inode name is in
+          let clash : None ≡ Some row.0 = sym none ∙ row.1 in
+          absurd (cc clash)
+
+      by_row : (found : Option Content) → find (is_entry t parent name) t.contents ≡ found → is_some (entry_at whole parent name) ≡ is_some found
+      by_row None there = by_entry there (entry_at whole parent name) refl
+      by_row (Some c) there = ap is_some (entry_made parent name c (folder c there) there)
 
 -- ---- counts
 

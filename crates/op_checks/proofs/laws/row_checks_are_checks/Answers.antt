@@ -1,4 +1,4 @@
-use Rattle.op_checks.proofs.Nodes.{node_check-row, directory_check-row, file_check-row, link_check-row, no_directory_check-row, lock_check-row, open_check-row, ids_check-row}
+use Rattle.op_checks.proofs.Nodes.{node_check-row, directory_check-row, file_check-row, link_check-row, no_directory_check-row, lock_check-row, open_check-row, ids_check-row, named_check-row, free_check-row}
 use Rattle.tree_rows.proofs.NamedAttrs.{attribute_at-row}
 use Rattle.op_checks.proofs.laws.row_checks_are_checks.Goals as goal
 
@@ -22,6 +22,12 @@ returns-clause-lock c t whole x same = lock_check-row t whole same x
 
 pub returns-clause-open : goal.returns-clause-open
 returns-clause-open c t whole x same = open_check-row t whole same x
+
+pub returns-clause-named : goal.returns-clause-named
+returns-clause-named c t whole x v same = named_check-row t whole v same x
+
+pub returns-clause-free : goal.returns-clause-free
+returns-clause-free c t whole x name v same = free_check-row t whole v same x name
 
 pub returns-clause-ids : goal.returns-clause-ids
 returns-clause-ids c t whole p count same set = ids_check-row t whole p count same set
