@@ -1,20 +1,21 @@
--- Names that are not worn while few are in use.
-use Rattle.std.proofs.Common.{◌≡◌, ◌<◌, ◌+◌, ◌^◌, ℕ, List, Bool, true, false, cond, Option, None, Some, refl, sym, ap, ◌∙◌, arith, lt-ltb, eqb-true}
-use Rattle.std.specs.Prelude.{IsTrue, ◌==◌, nat_lt, nat_le, option_map, unwrap_or}
+-- Names and counts that are not worn while few names are in use.
+use Rattle.std.proofs.Common.{◌≡◌, ◌<◌, ◌≤◌, ◌+◌, ◌^◌, ℕ, List, Bool, true, false, cond, Option, None, Some, refl, sym, ap, ◌∙◌, ⊎_elim, arith, lt-ltb, eqb-true}
+use Rattle.std.specs.Prelude.{IsTrue, ◌==◌, count_by, nat_lt, nat_le, option_map, unwrap_or}
 use Rattle.std.proofs.lemmas.List.Sums.{count_by-le-length}
 use Rattle.std.specs.Ordering.{is_eq}
 use Rattle.std.proofs.lemmas.Bool.{and_parts}
 use Rattle.op_frames.specs.declared.operation.Op.{Op}
-use Rattle.s3_rows.specs.Rows.{Name, Parameters}
+use Rattle.s3_rows.specs.Rows.{Inode, Name, Content, Parameters}
 use Rattle.s3_rows.specs.Tables.{Tables}
-use Rattle.s3_rows.specs.Selections.{bytes_cmp, name_of_bytes}
-use Rattle.s3_rows.specs.Counts.{listed_name_count}
+use Rattle.s3_rows.specs.Selections.{bytes_cmp, inode_at, name_of_bytes}
+use Rattle.s3_rows.specs.Counts.{listed_inode_count, listed_name_count}
 use Rattle.s3_rows.specs.Validity.{IsValid, counts_name}
 use Rattle.ref_counts.specs.Names.{Raised, raised, raised_of, raised_row, new_row}
-use Rattle.plain_tree.specs.Classes.{name_used}
+use Rattle.plain_tree.specs.Classes.{inode_linked, name_used}
 use Rattle.plain_tree.specs.Tree.{Tree}
 use Rattle.row_lemmas.proofs.Tests.{find_passes_all}
-use Rattle.ref_counts.specs.Plans.{next_name_of, uses_of, IsWorn}
+use Rattle.tree_rows.proofs.Rooted.{stored_count}
+use Rattle.ref_counts.specs.Plans.{next_name_of, uses_of, IsCountWorn, IsNameWorn, IsWorn, IsWornFor}
 
 module _ (t : Tables) (v : IsValid t) (few_names : next_name_of t < 2 ^ 62) (few_uses : uses_of t + 1 < 2 ^ 62) (name : List ℕ) where
   row_has_room : (n : Name) → name_of_bytes t name ≡ Some n → raised_row n ≡ None → ⊥
@@ -49,14 +50,28 @@ module _ (t : Tables) (v : IsValid t) (few_names : next_name_of t < 2 ^ 62) (few
           let own : raised_of name None (Some v.params) ≡ None = ap (raised_of name None) (sym v.is_made) ∙ is in
           params_have_room v.params v.is_made own
 
--- the name, if there is one, is worn
-abbrev WornFor : Tables → Option (List ℕ) → Type 0
-WornFor t used = elim used [ Some name ↦ raised t name ≡ None | None ↦ ⊥ ]
-
--- no operation finds its name worn
-pub not_worn : (t : Tables) (whole : Tree) (op : Op) → IsValid t → next_name_of t < 2 ^ 62 → uses_of t + 1 < 2 ^ 62 → IsWorn t whole op → ⊥
-not_worn t whole op v few_names few_uses worn = by_name (name_used whole op) worn
+-- an inode counts no more links than there are entries, and the root one
+links_have_room : (t : Tables) → IsValid t → uses_of t + 1 < 2 ^ 62 → (inode : ℕ) → IsCountWorn t inode → ⊥
+links_have_room t v few_uses inode worn = by_row (inode_at t inode) refl worn
   where
-    by_name : (used : Option (List ℕ)) → WornFor t used → ⊥
+    few : (b : Bool) → cond b 1 (count_by (λ (c : Content). c.inode == inode) t.contents) + 1 < 2 ^ 62
+    few true = omega arith
+    few false = omega (arith, count_by-le-length (λ (c : Content). c.inode == inode) t.contents, few_uses)
+
+    by_row : (found : Option Inode) → inode_at t inode ≡ found → (let full : Type 0 = elim found [ Some r ↦ 2 ^ 62 ≤ r.refcount + 1 | None ↦ ⊥ ] in full) → ⊥
+    by_row None there is = is
+    by_row (Some r) there is =
+        let count : r.refcount ≡ listed_inode_count t inode = stored_count t inode r v there in
+        omega (arith, count, few (inode == 1), is)
+
+-- no operation finds its name, or the count of its inode, worn
+pub not_worn : (t : Tables) (whole : Tree) (op : Op) → IsValid t → next_name_of t < 2 ^ 62 → uses_of t + 1 < 2 ^ 62 → IsWorn t whole op → ⊥
+not_worn t whole op v few_names few_uses worn = by_inode (inode_linked op) worn
+  where
+    by_name : (used : Option (List ℕ)) → IsNameWorn t used → ⊥
     by_name None is = is
     by_name (Some name) is = has_room t v few_names few_uses name is
+
+    by_inode : (linked : Option ℕ) → IsWornFor t (name_used whole op) linked → ⊥
+    by_inode None is = by_name (name_used whole op) is
+    by_inode (Some inode) is = ⊎_elim (by_name (name_used whole op)) (links_have_room t v few_uses inode) is

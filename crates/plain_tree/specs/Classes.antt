@@ -117,6 +117,11 @@ name_used t (ops.Rename parent name new_parent new_name) =
 name_used t (ops.Setxattr inode name flag value) = if is_some (attribute_at t inode name) then None else Some name
 name_used t _ = None
 
+-- the inode whose count of links would rise: it is there already, and gets one entry more
+abbrev pub inode_linked : Op → Option ℕ
+inode_linked (ops.Link inode parent name) = Some inode
+inode_linked _ = None
+
 -- how many new names it makes at most, and how many more uses of names
 abbrev pub names_drawn : Tree → Op → ℕ
 names_drawn t op = if is_some (name_used t op) then 1 else 0

@@ -3,18 +3,18 @@ use Rattle.std.proofs.Common.{◌≡◌, ◌<◌, ◌^◌, ℕ, List, [], true, 
 use Rattle.std.specs.Prelude.{IfOk}
 use Rattle.s3_base.specs.declared.errors.Errno.{Errno}
 use Rattle.op_frames.specs.declared.operation.Op.{Op}
+use Rattle.op_frames.specs.declared.operation.Op.TheVariants as ops
 use Rattle.op_frames.specs.declared.reply.Reply.{Reply}
 use Rattle.plain_tree.specs.Tree.{Tree}
 use Rattle.plain_tree.specs.Checks.{first_failure}
-use Rattle.plain_tree.specs.Classes.{keeps_rows, name_used, names_drawn}
+use Rattle.plain_tree.specs.Classes.{inode_linked, keeps_rows, name_used, names_drawn}
 use Rattle.plain_tree.specs.Operations.{checks, effect, success}
 use Rattle.s3_rows.specs.Rows.{Inode}
 use Rattle.s3_rows.specs.Tables.{Tables}
 use Rattle.s3_rows.specs.Validity.{IsValid, HasUniqueNames}
 use Rattle.tree_rows.specs.Shapes.{Represents}
 use Rattle.ref_counts.specs.Answers.{IsReplyOf}
-use Rattle.ref_counts.specs.Names.{raised}
-use Rattle.ref_counts.specs.Plans.{AreNamed, IsPlanOf, IsStep, IsWorn}
+use Rattle.ref_counts.specs.Plans.{AreNamed, IsPlanOf, IsStep, IsWorn, IsWornFor}
 use Rattle.ref_counts.specs.declared.plan.Plan.TheVariants as plans
 
 -- no change is a step
@@ -28,10 +28,16 @@ IsStep-same t next drawn v same = record {
   small = record { names = omega arith; uses = omega arith };
 }
 
--- an operation that needs no name finds none worn
+-- an operation that needs no name links no inode once more
+not_linked : (whole : Tree) (op : Op) → name_used whole op ≡ None → inode_linked op ≡ None
+not_linked whole (ops.Link inode parent name) nameless = absurd (cc nameless)
+not_linked whole _ nameless = refl
+
+-- and finds nothing worn
 pub IsWorn-nameless : (t : Tables) (whole : Tree) (op : Op) → name_used whole op ≡ None → IsWorn t whole op → ⊥
 IsWorn-nameless t whole op nameless worn =
-    let none : ⊥ = subst (λ (used : Option (List ℕ)). elim used as (λ _. Type 0) [ Some name ↦ raised t name ≡ None | None ↦ ⊥ ]) nameless worn in
+    let none : ⊥ =
+    subst (IsWornFor t None) (not_linked whole op nameless) (subst (λ (used : Option (List ℕ)). IsWornFor t used (inode_linked op)) nameless worn) in
     none
 
 -- the reply of an operation that changes no row

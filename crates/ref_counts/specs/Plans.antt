@@ -1,5 +1,5 @@
 -- When the plan of an operation is right: the tree's own refusal, or a batch after which tables represent the tree's next.
-use Rattle.std.specs.Prelude.{◌≡◌, ℕ, ◌+◌, ◌≤◌, ◌==◌, [], length, Bool, true, false, not, ◌&&◌, IsTrue, None, Some, option_map, unwrap_or}
+use Rattle.std.specs.Prelude.{◌≡◌, ◌⊎◌, ℕ, ◌+◌, ◌^◌, ◌≤◌, ◌==◌, List, [], length, Bool, true, false, not, ◌&&◌, IsTrue, Option, None, Some, option_map, unwrap_or}
 use Rattle.std.specs.List.{list_all}
 use Rattle.op_frames.specs.declared.operation.Op.{Op}
 use Rattle.op_frames.specs.declared.reply.Reply.{Reply}
@@ -8,10 +8,11 @@ use Rattle.op_frames.specs.Rules.{has_fit_fields}
 use Rattle.plain_tree.specs.Tree.{Tree}
 use Rattle.plain_tree.specs.Checks.{first_failure}
 use Rattle.plain_tree.specs.Operations.{checks, success, effect}
-use Rattle.plain_tree.specs.Classes.{keeps_rows, name_used, names_drawn}
+use Rattle.plain_tree.specs.Classes.{inode_linked, keeps_rows, name_used, names_drawn}
 use Rattle.s3_rows.specs.Rows.{Parameters}
 use Rattle.s3_rows.specs.Tables.{Tables}
 use Rattle.s3_rows.specs.Batches.{tables_after}
+use Rattle.s3_rows.specs.Selections.{inode_at}
 use Rattle.s3_rows.specs.Validity.{IsValid, HasUniqueNames}
 use Rattle.tree_rows.specs.Shapes.{Represents}
 use Rattle.ref_counts.specs.Names.{raised}
@@ -63,10 +64,24 @@ pub record IsStep (t after : Tables) (next : Tree) (drawn : ℕ) : Type 0 where
   pub small : IsSmall drawn t after
 
 -- a name is needed, and its count or its id would not be below 2^62
-abbrev pub IsWorn : Tables → Tree → Op → Type 0
-IsWorn t whole op = elim (name_used whole op) [ Some name ↦ raised t name ≡ None | None ↦ ⊥ ]
+abbrev pub IsNameWorn : Tables → Option (List ℕ) → Type 0
+IsNameWorn t None = ⊥
+IsNameWorn t (Some name) = raised t name ≡ None
 
--- A refusal is that of the first check that fails. Where none fails, the name that is needed is worn, or the reply is the tree's,
+-- the count of an inode that is there, and would be one more, would not be below 2^62
+abbrev pub IsCountWorn : Tables → ℕ → Type 0
+IsCountWorn t inode = elim (inode_at t inode) [ Some r ↦ 2 ^ 62 ≤ r.refcount + 1 | None ↦ ⊥ ]
+
+-- the name that is used once more, or the inode that is linked once more, is worn
+abbrev pub IsWornFor : Tables → Option (List ℕ) → Option ℕ → Type 0
+IsWornFor t used None = IsNameWorn t used
+IsWornFor t used (Some inode) = IsNameWorn t used ⊎ IsCountWorn t inode
+
+-- a count or an id that is needed would not be below 2^62
+abbrev pub IsWorn : Tables → Tree → Op → Type 0
+IsWorn t whole op = IsWornFor t (name_used whole op) (inode_linked op)
+
+-- A refusal is that of the first check that fails. Where none fails, a count or an id that is needed is worn, or the reply is the tree's,
 -- and after the batch the tables represent the tree's next.
 abbrev pub IsPlanOf : Tables → Tree → ℕ → Op → ℕ → Plan → Type 0
 IsPlanOf t whole pass op now (plans.Refuse errno) = first_failure (checks whole pass op) ≡ Some errno.0

@@ -23,7 +23,7 @@ abbrev pub is_keeper_fault : Reply → Bool
 is_keeper_fault (replies.Fault cause) = elim cause [ causes.Keeper ↦ true | causes.Link ↦ false | causes.Disk ↦ false | causes.Memory ↦ false ]
 is_keeper_fault _ = false
 
--- the reply where a name is worn: ENOSPC
+-- the reply where a count or an id is worn: ENOSPC
 abbrev pub no_space : Reply
 no_space = replies.Errno (record { 0 = 28 })
 
@@ -31,18 +31,18 @@ no_space = replies.Errno (record { 0 = 28 })
 abbrev pub changes_rows : Tree → Request → Bool
 changes_rows whole call = is_built call.op && not (is_some (first_failure (checks whole call.pass call.op))) && not (keeps_rows whole call.pass call.op)
 
--- no check fails, and the name that is needed is worn
+-- no check fails, and a count or an id that is needed is worn
 abbrev pub LacksName : Option Told → Tree → Request → Type 0
 LacksName before whole call = (first_failure (checks whole call.pass call.op) ≡ None) × IfTold before (λ t. IsWorn t whole call.op)
 
--- a reply outside the tree's rules: want of memory, a keeper whose count of faults rose, or a name that is worn
+-- a reply outside the tree's rules: want of memory, a keeper whose count of faults rose, or a count or an id that is worn
 abbrev pub IsForced : Type 0 → Option Told → Tree → Request → Reply → Type 0
 IsForced risen before whole call reply =
     (reply ≡ no_memory) ⊎ ((reply ≡ keeper_failed) × risen)
     ⊎ ((reply ≡ no_space) × LacksName before whole call)
 
--- The reply and the tree after are those of the core's rules, what is told has one batch more where rows are changed, and no name
--- that is needed is worn; or the reply is outside the rules, and all is as before.
+-- The reply and the tree after are those of the core's rules, what is told has one batch more where rows are changed, and no count
+-- or id that is needed is worn; or the reply is outside the rules, and all is as before.
 abbrev pub IsRowAnswer : Type 0 → Option Told → Option Told → Tree → Request → Reply → Tree → Type 0
 IsRowAnswer risen before after whole call reply next =
     ((reply ≡ core_reply whole call) × (next ≡ core_tree whole call) × IsToldAfter (changes_rows whole call) (names_drawn whole call.op) before after

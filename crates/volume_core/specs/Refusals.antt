@@ -25,9 +25,9 @@ has_keeper_failed (Err Memory) = false
 abbrev pub IsStill : {K : Type 0} → (K → Option Told) → RowCore K → RowCore K → Tree → Type 0
 IsStill told before after whole = StandsFor told after whole × (told after.keeper ≡ told before.keeper)
 
--- Ok: no check of the operation fails, no name that is needed is worn, the reply is that of the operation's success, and the core
--- stands for the tree after it. Refused: the first check that fails has this number. Worn: no check fails, and a name that is needed is worn. After each refusal all
--- is as before.
+-- Ok: no check of the operation fails, no count or id that is needed is worn, the reply is that of the operation's success, and the
+-- core stands for the tree after it. Refused: the first check that fails has this number. Worn: no check fails, and a count or an id
+-- that is needed is worn. After each refusal all is as before.
 abbrev pub IsOutcome : {K : Type 0} → (K → Option Told) → RowCore K → RowCore K → Tree → ℕ → Op → ℕ → Result Reply Refusal → Type 0
 IsOutcome told before after whole pass op now (Ok reply) =
     (first_failure (checks whole pass op) ≡ None) × (reply ≡ success whole pass op now) × StandsFor told after (effect whole pass op now)
