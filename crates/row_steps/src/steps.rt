@@ -1,4 +1,4 @@
-ghost use Rattle.std.specs.Prelude.{◌≡◌, ◌++◌, ◌==◌, ◌||◌, ℕ, List, [], Bool, filter, not, nat_lt, IsTrue, None, Some};
+ghost use Rattle.std.specs.Prelude.{◌≡◌, ◌++◌, ◌==◌, ◌||◌, ℕ, List, [], Bool, filter, not, nat_lt, IsTrue, None, Some, ◌+◌};
 ghost use Rattle.op_frames.specs.declared.operation.Op.{Op};
 ghost use Rattle.op_frames.specs.declared.operation.Op.TheVariants as ops;
 ghost use Rattle.op_frames.specs.declared.operation.SetFlag.{SetFlag};
@@ -22,7 +22,7 @@ ghost use Rattle.ref_counts.specs.Names.{Raised, raised};
 ghost use Rattle.ref_counts.specs.Plans.{AreNamed, IsStep};
 ghost use Rattle.ref_counts.specs.Removals.{removal, removals};
 ghost use Rattle.row_steps.specs.Owed.{IsBare, Owes};
-ghost use Rattle.row_steps.specs.RowChanges.{adding_attr, creation, dropping, link_creation, linking, new_directory_row, new_file_row, removing_attr, setting_attr, settling, unlinking, with_drawn};
+ghost use Rattle.row_steps.specs.RowChanges.{adding_attr, creation, dropping, link_creation, linking, new_directory_row, new_file_row, removing_attr, setting_attr, settling, unlinking, with_drawn, counted_row};
 
 /// Where no check of an operation on a well-formed tree fails, tables that owe nothing and represent the tree after it are valid.
 pub fn tables_after_operations_are_valid()
@@ -56,12 +56,16 @@ pub fn symlinks_are_steps()
 {}
 
 /// Where no check of a Link fails, and its name may be used once more, its batch leaves valid tables that represent the tree with
-/// an entry more of the file.
+/// an entry more of the file. The file's row is the one that counts the entry.
 pub fn links_are_steps()
-    ensures { (t : Tables) (whole : Tree) (p : Parameters) (directory r : Inode) (more : Raised) (pass inode parent now : ℕ) (name : List ℕ)
+    ensures step { (t : Tables) (whole : Tree) (p : Parameters) (directory r : Inode) (more : Raised) (pass inode parent now : ℕ) (name : List ℕ)
         → IsValid t → HasUniqueNames t → IsWellFormed whole → Represents t whole → t.params ≡ Some p → inode_at t parent ≡ Some directory
         → inode_at t inode ≡ Some r → first_failure (checks whole pass (ops.Link inode parent name)) ≡ None → raised t name ≡ Some more
         → IsStep t (tables_after (linking directory r more now) t) (effect whole pass (ops.Link inode parent name) now) 1 }
+    ensures row { (t : Tables) (whole : Tree) (p : Parameters) (directory r : Inode) (more : Raised) (pass inode parent now : ℕ) (name : List ℕ)
+        → IsValid t → HasUniqueNames t → IsWellFormed whole → Represents t whole → t.params ≡ Some p → inode_at t parent ≡ Some directory
+        → inode_at t inode ≡ Some r → first_failure (checks whole pass (ops.Link inode parent name)) ≡ None → raised t name ≡ Some more
+        → inode_at (tables_after (linking directory r more now) t) inode ≡ Some (counted_row (r.refcount + 1) now r) }
 {}
 
 /// The row of a new inode is found after its batch.
