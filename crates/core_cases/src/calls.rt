@@ -49,6 +49,20 @@ const SHAPES: &[(&str, Shape)] = &[
     ("truncate", (6, PLACE_AND_NUMBER)),
     ("mkdir", (7, ENTRY)),
     ("create", (8, ENTRY)),
+    ("link", (12, &[Field::Long, Field::Long, Field::Name])),
+    (
+        "symlink",
+        (
+            13,
+            &[
+                Field::Long,
+                Field::Name,
+                Field::Name,
+                Field::Middle,
+                Field::Middle,
+            ],
+        ),
+    ),
     ("readlink", (14, INODE)),
     ("open", (15, INODE)),
     ("release", (16, INODE)),

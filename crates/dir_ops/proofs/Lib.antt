@@ -1,6 +1,8 @@
 pub mod ChildRow
 pub mod DirectoryRows
+pub mod Entering
 pub mod EntryRows
+pub mod Linked
 pub mod NewDirectory
 pub mod NewEntry
 pub mod NewFile

@@ -1,6 +1,6 @@
 -- When the plan of an operation is right that makes an inode, of any kind, with an entry.
-use Rattle.std.proofs.Common.{◌≡◌, ℕ, List, ◌∷◌, length, Bool, true, false, cond, Option, None, Some, refl, sym, ap, ◌∙◌, subst, arith, eqb-true}
-use Rattle.std.specs.Prelude.{◌^◌, ◌==◌, is_some, nat_lt, option_map}
+use Rattle.std.proofs.Common.{◌≡◌, ℕ, List, Bool, true, false, cond, Option, None, Some, refl, sym, ap, ◌∙◌}
+use Rattle.std.specs.Prelude.{◌^◌, is_some, nat_lt, option_map}
 use Rattle.op_frames.specs.declared.operation.Op.{Op}
 use Rattle.op_frames.specs.declared.reply.Reply.{Reply}
 use Rattle.plain_tree.specs.Tree.{Tree}
@@ -17,6 +17,7 @@ use Rattle.ref_counts.specs.Names.{Raised, raised, raised_of}
 use Rattle.ref_counts.specs.Plans.{IsStep, IsPlanOf, IsWorn}
 use Rattle.row_steps.specs.RowChanges.{creation, drawn, with_drawn}
 use Rattle.dir_ops.specs.Plans.{entry_plan}
+use Rattle.dir_ops.proofs.Entering.{entering_planned, some_changes}
 
 -- ---- names that are worn
 
@@ -36,12 +37,12 @@ none_of : (found : Option Raised) → is_some found ≡ false → found ≡ None
 none_of None is = refl
 none_of (Some more) is = absurd (cc is)
 
-some_changes : (c : Change) (cs : List Change) → (length (c ∷ cs) == 0) ≡ false
-some_changes c cs = by_case (length (c ∷ cs) == 0) refl
-  where
-    by_case : (b : Bool) → (length (c ∷ cs) == 0) ≡ b → b ≡ false
-    by_case true none = absurd (omega (arith, eqb-true (length (c ∷ cs)) 0 none))
-    by_case false none = refl
+-- so it is worn after the draw where it was before, and back
+pub none_from_drawn : (t : Tables) (p : Parameters) (name : List ℕ) → t.params ≡ Some p → raised (with_drawn p t) name ≡ None → raised t name ≡ None
+none_from_drawn t p name set none = none_of (raised t name) (sym (is_some-raised_drawn t p name set) ∙ ap is_some none)
+
+pub none_if_drawn : (t : Tables) (p : Parameters) (name : List ℕ) → t.params ≡ Some p → raised t name ≡ None → raised (with_drawn p t) name ≡ None
+none_if_drawn t p name set none = none_of (raised (with_drawn p t) name) (is_some-raised_drawn t p name set ∙ ap is_some none)
 
 -- ---- the plan
 
@@ -59,18 +60,12 @@ module _ (t : Tables) (whole : Tree) (pass : ℕ) (op : Op) (now : ℕ) (p : Par
   pub creation_planned : IsMaking → (batch : Option (List Change)) → batch ≡ option_map (λ (more : Raised). creation p directory more new now) (raised (with_drawn p t) name)
       → IsPlanOf t whole pass op now (entry_plan batch reply)
   creation_planned making batch is =
-      subst (λ (b : Option (List Change)). IsPlanOf t whole pass op now (entry_plan b reply)) (sym is) (by_name (raised (with_drawn p t) name) refl)
-    where
-      by_name : (found : Option Raised) → raised (with_drawn p t) name ≡ found
-          → IsPlanOf t whole pass op now (entry_plan (option_map (λ (more : Raised). creation p directory more new now) found) reply)
-      by_name None used = (making.passes, making.worn (none_of (raised t name) (sym (is_some-raised_drawn t p name making.set) ∙ ap is_some used)))
-      by_name (Some more) used = (
-        making.passes,
-        making.replies more used,
-        making.step more used,
-        some_changes (changes.SetParams (drawn p)) _ ∙ sym making.changes,
-        refl,
-        λ worn.
-            let clash : true ≡ false = sym (ap is_some used) ∙ is_some-raised_drawn t p name making.set ∙ ap is_some (making.usable worn) in
-            cc clash,
-      )
+      entering_planned t whole pass op now (raised (with_drawn p t) name) (λ (more : Raised). creation p directory more new now) reply (record {
+        passes = making.passes;
+        worn = λ none. making.worn (none_from_drawn t p name making.set none);
+        usable = λ worn. none_if_drawn t p name making.set (making.usable worn);
+        changes = making.changes;
+        some = λ more. some_changes (changes.SetParams (drawn p)) _;
+        step = making.step;
+        replies = making.replies;
+      }) batch is

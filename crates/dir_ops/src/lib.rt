@@ -3,10 +3,11 @@
 
 mod create;
 mod entries;
-mod mkdir;
-mod new_entry;
-mod places;
+mod link;
 mod lookup;
+mod mkdir;
+pub mod new_entry;
+pub mod places;
 mod plans;
 mod readdir;
 

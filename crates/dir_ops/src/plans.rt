@@ -13,6 +13,7 @@ ghost use Rattle.ref_counts.specs.Plans.{IsPlanOf, HasFitReply};
 ghost use Rattle.dir_ops.specs.Plans.{is_planned};
 
 use crate::create::plan_create;
+use crate::link::plan_link;
 use crate::lookup::plan_lookup;
 use crate::mkdir::plan_mkdir;
 use crate::new_entry::NewInode;
@@ -22,7 +23,8 @@ use ref_counts::{Handles, Plan};
 use s3_rows::{Keeper, KeeperFault};
 use std::alloc::Global;
 
-/// The plan of an operation of a pass on entries of directories, at a time: Lookup, Mkdir, Create or Readdir. It commits nothing.
+/// The plan of an operation of a pass on entries of directories, at a time: Lookup, Mkdir, Create, Link or Readdir. It commits
+/// nothing.
 pub fn plan<K: Keeper>(
     alloc: Global,
     keeper: &mut K,
@@ -78,6 +80,11 @@ pub fn plan<K: Keeper>(
                 now,
             },
         ),
+        Op::Link {
+            inode,
+            parent,
+            name,
+        } => plan_link(alloc, keeper, *inode, *parent, name, now),
         Op::Readdir { inode, after, max } => plan_readdir(alloc, keeper, *inode, after, *max),
         _ => unreachable!(),
     }

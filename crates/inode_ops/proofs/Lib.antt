@@ -1,4 +1,5 @@
 pub mod Counted
+pub mod NewLink
 pub mod NodeRows
 pub mod Opened
 pub mod Planned

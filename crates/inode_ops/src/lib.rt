@@ -7,6 +7,7 @@ mod handles_of;
 mod plans;
 mod reading;
 mod statfs;
+mod symlink;
 mod xattrs;
 
 pub use plans::plan;

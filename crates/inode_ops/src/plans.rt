@@ -15,14 +15,16 @@ use crate::attributes::{chmod_of, chown_of, getattr_of, utimes_of};
 use crate::handles_of::{open_of, release};
 use crate::reading::{getxattr, listxattr, readlink};
 use crate::statfs::statfs;
+use crate::symlink::{LINK_MODE, plan_symlink};
 use crate::xattrs::{removexattr, setxattr};
+use dir_ops::new_entry::NewInode;
 use op_frames::{Op, Reply};
 use ref_counts::{Handles, Plan, answer};
 use s3_rows::{Keeper, KeeperFault};
 use std::alloc::Global;
 
-/// The plan of an operation of a pass at a time: Getattr, Chmod, Chown, Utimes, Readlink, Open, Release, Statfs, Setxattr,
-/// Getxattr, Listxattr, Removexattr or Leave. It commits nothing, and leaves the handles as they are.
+/// The plan of an operation of a pass at a time: Getattr, Chmod, Chown, Utimes, Symlink, Readlink, Open, Release, Statfs,
+/// Setxattr, Getxattr, Listxattr, Removexattr or Leave. It commits nothing, and leaves the handles as they are.
 pub fn plan<K: Keeper>(
     alloc: Global,
     keeper: &mut K,
@@ -57,6 +59,25 @@ pub fn plan<K: Keeper>(
             let found = keeper.inode(*inode)?;
             Ok(utimes_of(alloc, found, *mtime, now)?)
         }
+        Op::Symlink {
+            parent,
+            name,
+            target,
+            uid,
+            gid,
+        } => plan_symlink(
+            alloc,
+            keeper,
+            *parent,
+            name,
+            target,
+            &NewInode {
+                mode: LINK_MODE,
+                uid: *uid,
+                gid: *gid,
+                now,
+            },
+        ),
         Op::Readlink { inode } => readlink(alloc, keeper, *inode),
         Op::Open { inode } => {
             let found = keeper.inode(*inode)?;

@@ -131,6 +131,7 @@ impl<K: Keeper> RowCore<K> {
             | Op::Chmod { .. }
             | Op::Chown { .. }
             | Op::Utimes { .. }
+            | Op::Symlink { .. }
             | Op::Readlink { .. }
             | Op::Open { .. }
             | Op::Release { .. }
@@ -140,7 +141,11 @@ impl<K: Keeper> RowCore<K> {
             | Op::Listxattr { .. }
             | Op::Removexattr { .. }
             | Op::Leave => self.on_inodes(pass, op, now),
-            Op::Lookup { .. } | Op::Mkdir { .. } | Op::Create { .. } | Op::Readdir { .. } => {
+            Op::Lookup { .. }
+            | Op::Mkdir { .. }
+            | Op::Create { .. }
+            | Op::Link { .. }
+            | Op::Readdir { .. } => {
                 self.on_entries(pass, op, now)
             }
             Op::Truncate { inode, size } => self.truncate(*inode, *size, now),

@@ -28,6 +28,7 @@ returns-in-Mkdir-clause-plan g c =
     (λ t planned v unique whole same well has. subst (λ (op : Op). IsPlanOf t whole c.args.pass op c.args.now p) (sym c.in-Mkdir.is) (planned v unique whole c.args.pass same well))
     own)
     c.plan_mkdir.result c.plan_mkdir.ensures.plan
+
 pub returns-in-Readdir-clause-plan : goal.returns-in-Readdir-clause-plan
 returns-in-Readdir-clause-plan g c =
     if_ok _ _ (λ p own.
@@ -35,3 +36,11 @@ returns-in-Readdir-clause-plan g c =
     (λ t planned v unique whole same well has. subst (λ (op : Op). IsPlanOf t whole c.args.pass op c.args.now p) (sym c.in-Readdir.is) (planned v whole c.args.pass c.args.now same))
     own)
     c.plan_readdir.result c.plan_readdir.ensures.plan
+
+pub returns-in-Link-clause-plan : goal.returns-in-Link-clause-plan
+returns-in-Link-clause-plan g c =
+    if_ok _ _ (λ p own.
+    IfTold-weaker (g.K.Keeper.told c.args.keeper.now) _ _
+    (λ t planned v unique whole same well has. subst (λ (op : Op). IsPlanOf t whole c.args.pass op c.args.now p) (sym c.in-Link.is) (planned v unique whole c.args.pass same well))
+    own)
+    c.plan_link.result c.plan_link.ensures.plan

@@ -39,6 +39,14 @@ returns-in_ok-found-in-Open-clause-plan g c =
     (λ t is v unique named whole same well has. subst (λ (op : Op). IsPlanOf t whole c.args.pass op c.args.now c.open_of.result) (sym c.in-Open.is) (c.open_of.ensures.plan t whole c.args.pass c.in-Open.inode c.args.now v same has is))
     c.in_ok-found-in-Open.ensures.row
 
+pub returns-in-Symlink-clause-plan : goal.returns-in-Symlink-clause-plan
+returns-in-Symlink-clause-plan g c =
+    if_ok _ _ (λ p own.
+    IfTold-weaker (g.K.Keeper.told c.args.keeper.now) _ _
+    (λ t planned v unique named whole same well has. subst (λ (op : Op). IsPlanOf t whole c.args.pass op c.args.now p) (sym c.in-Symlink.is) (planned v unique whole c.args.pass same well))
+    own)
+    c.plan_symlink.result c.plan_symlink.ensures.plan
+
 pub returns-in-Release-clause-plan : goal.returns-in-Release-clause-plan
 returns-in-Release-clause-plan g c =
     if_ok _ _ (λ p own.
