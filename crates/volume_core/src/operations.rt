@@ -145,9 +145,7 @@ impl<K: Keeper> RowCore<K> {
             | Op::Mkdir { .. }
             | Op::Create { .. }
             | Op::Link { .. }
-            | Op::Readdir { .. } => {
-                self.on_entries(pass, op, now)
-            }
+            | Op::Readdir { .. } => { self.on_entries(pass, op, now) }
             Op::Truncate { inode, size } => self.truncate(*inode, *size, now),
             Op::Read {
                 handle,
