@@ -2,6 +2,7 @@ pub mod Attributes
 pub mod Dropping
 pub mod Entered
 pub mod Entering
+pub mod Holding
 pub mod Leaving
 pub mod LeftFiles
 pub mod Less

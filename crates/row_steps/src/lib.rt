@@ -26,6 +26,6 @@ pub use steps::{
     tables_after_operations_are_valid,
 };
 pub use trees::{
-    attributes_are_attributes, entries_are_entries, name_rows_leave_the_tree, rows_are_nodes,
-    rows_of_no_node_leave_the_tree,
+    attributes_are_attributes, entries_are_entries, holders_are_parents, name_rows_leave_the_tree,
+    rows_are_nodes, rows_of_no_node_leave_the_tree,
 };

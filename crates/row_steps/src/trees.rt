@@ -1,14 +1,18 @@
-ghost use Rattle.std.specs.Prelude.{◌≡◌, ℕ, List, ◌∷◌, false, is_some, IsTrue, None, Some};
+ghost use Rattle.std.specs.Prelude.{◌≡◌, ℕ, ◌==◌, List, ◌∷◌, false, is_some, IsTrue, None, Some};
+ghost use Rattle.s3_base.specs.Numbers.{root};
 ghost use Rattle.s3_base.specs.declared.node_kind.Kind.TheVariants as kinds;
 ghost use Rattle.plain_tree.specs.Tree.{Node, Tree, change_node, stamped, with_node, without_node};
+ghost use Rattle.plain_tree.specs.Below.{is_at_or_below};
+ghost use Rattle.plain_tree.specs.Entries as entries;
 ghost use Rattle.plain_tree.specs.Entries.{add_entry, drop_entry};
+ghost use Rattle.plain_tree.specs.WellFormed.{IsWellFormed};
 ghost use Rattle.plain_tree.specs.Pages.{with_attribute, without_attribute};
 ghost use Rattle.s3_rows.specs.declared.change.Change.TheVariants as changes;
 ghost use Rattle.s3_rows.specs.Rows.{Inode, Name, Content, Target, Attr, Parameters};
 ghost use Rattle.s3_rows.specs.Tables.{Tables};
 ghost use Rattle.s3_rows.specs.Batches.{after_change, tables_after};
-ghost use Rattle.s3_rows.specs.Selections.{inode_at, name_at, entry_at, attr_at, bytes_of_name};
-ghost use Rattle.s3_rows.specs.Validity.{HasUniqueNames};
+ghost use Rattle.s3_rows.specs.Selections.{holder_of, inode_at, name_at, entry_at, attr_at, bytes_of_name};
+ghost use Rattle.s3_rows.specs.Validity.{IsValid, HasUniqueNames, has_inode, is_directory};
 ghost use Rattle.tree_rows.specs.Shapes.{shape_of_node, node_of_row, Represents};
 ghost use Rattle.ref_counts.specs.Names.{lowered};
 ghost use Rattle.row_steps.specs.Owed.{Owes, has_entry};
@@ -71,4 +75,17 @@ pub fn attributes_are_attributes()
         → attr_at t a.inode a.name_id ≡ Some a
         → Represents (after_change (changes.PutInode (stamped_row now r)) (after_change (changes.DeleteAttr a.inode a.name_id) t))
         (change_node r.id (λ node. stamped now (without_attribute n.name node)) whole) }
+{}
+
+/// A directory but the root has an entry that names it. The entry that tables find is one of the tree, its parent is a directory,
+/// and the one that it names lies at or below another, which it is not, where the parent does.
+pub fn holders_are_parents()
+    ensures found { (t : Tables) (whole : Tree) → IsValid t → Represents t whole → IsWellFormed whole → (inode : ℕ) → IsTrue (has_inode is_directory t inode)
+        → (inode == root) ≡ false → IsTrue (is_some (holder_of t inode)) }
+    ensures entry { (t : Tables) (whole : Tree) → IsValid t → Represents t whole → (inode : ℕ) (c : Content) → holder_of t inode ≡ Some c
+        → entries.entry_at whole c.parent (bytes_of_name t c.name_id) ≡ Some inode }
+    ensures parent { (t : Tables) (whole : Tree) → IsValid t → Represents t whole → (inode : ℕ) (c : Content) → holder_of t inode ≡ Some c
+        → IsTrue (has_inode is_directory t c.parent) }
+    ensures below { (t : Tables) (whole : Tree) → IsValid t → Represents t whole → (inode : ℕ) (c : Content) → holder_of t inode ≡ Some c → IsWellFormed whole
+        → IsTrue (has_inode is_directory t inode) → (top : ℕ) → (inode == top) ≡ false → is_at_or_below whole top inode ≡ is_at_or_below whole top c.parent }
 {}
