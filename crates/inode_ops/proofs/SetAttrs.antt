@@ -23,12 +23,12 @@ use Rattle.tree_rows.specs.NamedAttrs.{attr_of_name}
 use Rattle.tree_rows.specs.Shapes.{Represents}
 use Rattle.tree_rows.proofs.NamedAttrs.{IsAttrNamed_from_row, attribute_at-row, value_of}
 use Rattle.op_checks.specs.Rows.{row_check, lock_row_check}
-use Rattle.ref_counts.specs.Names.{Raised, raised}
+use Rattle.ref_counts.specs.Names.{Raised, lowered, raised}
 use Rattle.ref_counts.specs.Plans.{IsPlanOf, IsStep, IsWorn}
 use Rattle.ref_counts.specs.declared.plan.Plan.{Plan}
 use Rattle.ref_counts.specs.declared.plan.Plan.TheVariants as plans
 use Rattle.ref_counts.proofs.Idle.{IsWorn-nameless}
-use Rattle.row_steps.specs.RowChanges.{adding_attr, lowered, removing_attr, setting_attr, stamped_row}
+use Rattle.row_steps.specs.RowChanges.{adding_attr, removing_attr, setting_attr, stamped_row}
 use Rattle.row_steps.proofs.Attributes.{new_attribute_step, removed_attribute_step, set_attribute_step}
 use Rattle.inode_ops.specs.SetAttrs.{IsAdding, IsSetting}
 use Rattle.inode_ops.proofs.Planned.{there, unlocked}

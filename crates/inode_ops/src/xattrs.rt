@@ -15,9 +15,9 @@ ghost use Rattle.tree_rows.specs.NamedAttrs.{attr_of_name};
 ghost use Rattle.tree_rows.specs.Shapes.{Represents};
 ghost use Rattle.op_checks.specs.Checks.{Checks};
 ghost use Rattle.op_checks.specs.Rows.{row_check, lock_row_check};
-ghost use Rattle.ref_counts.specs.Names.{raised};
+ghost use Rattle.ref_counts.specs.Names.{lowered, raised};
 ghost use Rattle.ref_counts.specs.Plans.{IsPlanOf, HasFitReply};
-ghost use Rattle.row_steps.specs.RowChanges.{lowered, removing_attr, setting_attr};
+ghost use Rattle.row_steps.specs.RowChanges.{removing_attr, setting_attr};
 ghost use Rattle.inode_ops.specs.SetAttrs.{IsAdding, IsSetting};
 
 use op_checks::{
