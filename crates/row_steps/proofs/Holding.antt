@@ -1,27 +1,29 @@
 -- The way up from a directory over rows: the entry that names it is in its parent.
-use Rattle.std.proofs.Common.{◌≡◌, ℕ, zero, suc, List, [], ◌∷◌, Bool, true, false, cond, Option, None, Some, refl, ap, ◌∙◌, subst, eqb-true, eq-eqb}
+use Rattle.std.proofs.Common.{◌≡◌, ℕ, zero, suc, List, [], ◌∷◌, Bool, true, false, cond, Option, None, Some, refl, sym, ap, ◌∙◌, subst, eqb-true, eq-eqb}
 use Rattle.std.proofs.lemmas.Bool.{both_ways, and_parts}
-use Rattle.std.specs.Prelude.{IsTrue, ◌||◌, ◌==◌, filter, is_some}
+use Rattle.std.specs.Prelude.{IsTrue, not, ◌||◌, ◌==◌, length, filter, find, is_some, option_map}
 use Rattle.std.specs.List.{AllByRecursion, list_any}
 use Rattle.std.specs.Ordering.{is_gt}
 use Rattle.s3_base.specs.Numbers.{root}
 use Rattle.plain_tree.specs.Below.{is_at_or_below}
 use Rattle.plain_tree.specs.Entries.{entry_at}
-use Rattle.plain_tree.specs.Tree.{Tree}
+use Rattle.plain_tree.specs.Tree.{Tree, node_at}
 use Rattle.plain_tree.specs.WellFormed.{IsWellFormed, LeadsToRoot}
-use Rattle.s3_rows.specs.Rows.{Content}
+use Rattle.s3_rows.specs.Rows.{Inode, Content}
 use Rattle.s3_rows.specs.Keyed.{Order, has_key, least, row_at}
-use Rattle.s3_rows.specs.Tables.{Tables, by_entry}
-use Rattle.s3_rows.specs.Selections.{bytes_of_name, by_parent_and_bytes, holder_of}
-use Rattle.s3_rows.specs.Validity.{IsValid, any_kind, finds_of_entry, has_inode, is_directory}
-use Rattle.row_lemmas.proofs.Tests.{find_passes_all, list_any_from_find}
+use Rattle.s3_rows.specs.Tables.{Tables, by_entry, by_inode}
+use Rattle.s3_rows.specs.Selections.{inode_at, bytes_of_name, by_parent_and_bytes, holder_of}
+use Rattle.s3_rows.specs.Validity.{IsValid, any_kind, finds_of_entry, has_inode, is_below_root, is_directory, leads_to_root, parent_of}
+use Rattle.row_lemmas.proofs.Tests.{find_passes, find_passes_all, list_any_from_find}
 use Rattle.row_lemmas.proofs.Keyed.RowAt.{row_at_own}
 use Rattle.row_lemmas.proofs.Tables.{pair_cmp_total}
+use Rattle.tree_laws.proofs.Node.Kind.{folder_kind}
 use Rattle.tree_laws.proofs.Shape.Above.{is_at_or_below-parent}
+use Rattle.tree_laws.proofs.Shape.Definition.{named_at_one_place}
 use Rattle.tree_rows.specs.Shapes.{Represents}
 use Rattle.tree_rows.proofs.Listed.{is_entry}
 use Rattle.tree_rows.proofs.Rooted.{own_entry}
-use Rattle.tree_rows.proofs.Whole.{entry_found, folder_is}
+use Rattle.tree_rows.proofs.Whole.{entry_found, folder_is, number_of}
 
 -- the least of the rows that pass is one of them
 least-filter : {K R : Type 0} (o : Order K R) (q : R → Bool) (P : R → Type 0) (rows : List R) → AllByRecursion P rows → (c : R) → least o (filter q rows) ≡ Some c
@@ -101,3 +103,36 @@ module _ (t : Tables) (whole : Tree) (v : IsValid t) (same : Represents t whole)
       → is_at_or_below whole top x ≡ is_at_or_below whole top c.parent
   holder_below well folder top other =
       is_at_or_below-parent whole well top x c.parent (bytes_of_name t c.name_id) (folder_is t whole same x ∙ folder) holder_entry other
+
+  -- which is one step nearer to the root
+  pub holder_nearer : IsWellFormed whole → IsTrue (has_inode is_directory t x) → (x == root) ≡ false → (steps : ℕ) → IsTrue (leads_to_root (suc steps) t x)
+      → IsTrue (leads_to_root steps t c.parent)
+  holder_nearer well folder other steps leads =
+      by_row (find (λ (r : Content). r.inode == x) t.contents) refl
+      (sym (ap (λ b. b || elim (parent_of t x) [ Some parent ↦ leads_to_root steps t parent | None ↦ false ]) other) ∙ leads)
+    where
+      by_row : (found : Option Content) → find (λ (r : Content). r.inode == x) t.contents ≡ found
+          → IsTrue (elim (option_map (λ (r : Content). r.parent) found) [ Some parent ↦ leads_to_root steps t parent | None ↦ false ]) → IsTrue (leads_to_root steps t c.parent)
+      by_row None there up = absurd (cc up)
+      by_row (Some first) there up =
+          let number : first.inode ≡ x = eqb-true first.inode x (find_passes (λ (r : Content). r.inode == x) t.contents first there) in
+          let one =
+          named_at_one_place whole well.tree c.parent first.parent x (bytes_of_name t c.name_id) (bytes_of_name t first.name_id)
+          (folder_kind (node_at whole x) (folder_is t whole same x ∙ folder)) holder_entry
+          (own_entry t v whole same (λ (r : Content). r.inode == x) first there ∙ ap Some number) in
+          subst (λ y. IsTrue (leads_to_root steps t y)) one.0 up
+
+-- a directory leads to the root in no more steps than inodes are many
+pub directory_leads : (t : Tables) → IsValid t → (x : ℕ) → IsTrue (has_inode is_directory t x) → IsTrue (leads_to_root (length t.inodes) t x)
+directory_leads t v x folder = by_row (inode_at t x) refl folder
+  where
+    by_kind : (b : Bool) → IsTrue b → (d : Bool) → IsTrue (not b || d) → IsTrue d
+    by_kind true is d passes = passes
+    by_kind false is d passes = absurd (cc is)
+
+    by_row : (found : Option Inode) → inode_at t x ≡ found → IsTrue (elim found [ Some r ↦ is_directory r.kind | None ↦ false ]) → IsTrue (leads_to_root (length t.inodes) t x)
+    by_row None there is = absurd (cc is)
+    by_row (Some r) there is =
+        subst (λ y. IsTrue (leads_to_root (length t.inodes) t y)) (sym (number_of t x r there))
+        (by_kind (is_directory r.kind) is (leads_to_root (length t.inodes) t r.id)
+        (find_passes_all (has_key by_inode x) (is_below_root t) t.inodes r v.tree.below_root there))

@@ -1,4 +1,4 @@
-ghost use Rattle.std.specs.Prelude.{◌≡◌, ℕ, ◌==◌, List, ◌∷◌, false, is_some, IsTrue, None, Some};
+ghost use Rattle.std.specs.Prelude.{◌≡◌, ℕ, suc, ◌==◌, List, ◌∷◌, length, false, is_some, IsTrue, None, Some};
 ghost use Rattle.s3_base.specs.Numbers.{root};
 ghost use Rattle.s3_base.specs.declared.node_kind.Kind.TheVariants as kinds;
 ghost use Rattle.plain_tree.specs.Tree.{Node, Tree, change_node, stamped, with_node, without_node};
@@ -12,7 +12,7 @@ ghost use Rattle.s3_rows.specs.Rows.{Inode, Name, Content, Target, Attr, Paramet
 ghost use Rattle.s3_rows.specs.Tables.{Tables};
 ghost use Rattle.s3_rows.specs.Batches.{after_change, tables_after};
 ghost use Rattle.s3_rows.specs.Selections.{holder_of, inode_at, name_at, entry_at, attr_at, bytes_of_name};
-ghost use Rattle.s3_rows.specs.Validity.{IsValid, HasUniqueNames, has_inode, is_directory};
+ghost use Rattle.s3_rows.specs.Validity.{IsValid, HasUniqueNames, has_inode, is_directory, leads_to_root};
 ghost use Rattle.tree_rows.specs.Shapes.{shape_of_node, node_of_row, Represents};
 ghost use Rattle.ref_counts.specs.Names.{lowered};
 ghost use Rattle.row_steps.specs.Owed.{Owes, has_entry};
@@ -78,7 +78,8 @@ pub fn attributes_are_attributes()
 {}
 
 /// A directory but the root has an entry that names it. The entry that tables find is one of the tree, its parent is a directory,
-/// and the one that it names lies at or below another, which it is not, where the parent does.
+/// and the one that it names lies at or below another, which it is not, where the parent does. No way up is longer than inodes are
+/// many.
 pub fn holders_are_parents()
     ensures found { (t : Tables) (whole : Tree) → IsValid t → Represents t whole → IsWellFormed whole → (inode : ℕ) → IsTrue (has_inode is_directory t inode)
         → (inode == root) ≡ false → IsTrue (is_some (holder_of t inode)) }
@@ -88,4 +89,8 @@ pub fn holders_are_parents()
         → IsTrue (has_inode is_directory t c.parent) }
     ensures below { (t : Tables) (whole : Tree) → IsValid t → Represents t whole → (inode : ℕ) (c : Content) → holder_of t inode ≡ Some c → IsWellFormed whole
         → IsTrue (has_inode is_directory t inode) → (top : ℕ) → (inode == top) ≡ false → is_at_or_below whole top inode ≡ is_at_or_below whole top c.parent }
+    ensures nearer { (t : Tables) (whole : Tree) → IsValid t → Represents t whole → (inode : ℕ) (c : Content) → holder_of t inode ≡ Some c → IsWellFormed whole
+        → IsTrue (has_inode is_directory t inode) → (inode == root) ≡ false → (steps : ℕ) → IsTrue (leads_to_root (suc steps) t inode)
+        → IsTrue (leads_to_root steps t c.parent) }
+    ensures short { (t : Tables) → IsValid t → (inode : ℕ) → IsTrue (has_inode is_directory t inode) → IsTrue (leads_to_root (length t.inodes) t inode) }
 {}
