@@ -2,7 +2,7 @@
 use Rattle.std.specs.Prelude.{List, [], Bool, ◌&&◌, Option, None, Some}
 use Rattle.op_frames.specs.declared.operation.Op.{Op}
 use Rattle.op_frames.specs.declared.reply.Reply.{Reply}
-use Rattle.plain_tree.specs.Built.{is_built}
+use Rattle.core_rules.specs.Built.{is_built}
 use Rattle.plain_tree.specs.Classes.{class_of, is_of_entries}
 use Rattle.s3_rows.specs.declared.change.Change.{Change}
 use Rattle.ref_counts.specs.declared.plan.Plan.{Plan}

@@ -1,7 +1,7 @@
 -- The operations of this crate.
 use Rattle.std.specs.Prelude.{Bool, ◌&&◌}
 use Rattle.op_frames.specs.declared.operation.Op.{Op}
-use Rattle.plain_tree.specs.Built.{is_built}
+use Rattle.core_rules.specs.Built.{is_built}
 use Rattle.plain_tree.specs.Classes.{class_of, is_of_inodes}
 
 -- the operations that this crate plans: those on inodes and handles that are built

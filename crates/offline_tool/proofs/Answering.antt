@@ -17,7 +17,7 @@ use Rattle.plain_tree.specs.Classes.{name_used, names_drawn}
 use Rattle.ref_counts.specs.Plans.{next_name_of, uses_of, IsWorn, IsSmall}
 use Rattle.volume_core.specs.declared.row_core.RowCore.{RowCore}
 use Rattle.volume_core.specs.Answers.{IsForced, IsRowAnswer, changes_rows}
-use Rattle.plain_tree.specs.Built.{IsCoreAnswer}
+use Rattle.core_rules.specs.Built.{IsCoreAnswer}
 use Rattle.volume_core.specs.Opening.{IsMounting, mounted}
 use Rattle.volume_core.specs.Standing.{StandsFor, IsToldAfter}
 use Rattle.offline_tool.specs.Serving.{told_by, Serves}

@@ -12,7 +12,7 @@ use Rattle.op_frames.specs.Replay.{Request, Replay, Verdict, Ended, Refused, end
 use Rattle.plain_tree.specs.Tree.{Tree, made_tree}
 use Rattle.s3_rows.specs.Told.{Told}
 use Rattle.volume_core.specs.declared.row_core.RowCore.{RowCore}
-use Rattle.plain_tree.specs.Built.{core_reply, core_tree, IsCoreAnswer, CoreAnswers}
+use Rattle.core_rules.specs.Built.{core_reply, core_tree, IsCoreAnswer, CoreAnswers}
 use Rattle.offline_tool.specs.declared.reader.Next.{Next}
 use Rattle.offline_tool.specs.declared.reader.Next.TheVariants as next
 use Rattle.offline_tool.specs.declared.reader.Stop.{Stop}

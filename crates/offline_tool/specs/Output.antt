@@ -6,7 +6,7 @@ use Rattle.op_frames.specs.Replies.{is_reply}
 use Rattle.op_frames.specs.Answers.{answer_frame, bad_input_frame}
 use Rattle.op_frames.specs.Replay.{Replay, Verdict, Ended, Refused, replay_of}
 use Rattle.plain_tree.specs.Tree.{Tree, made_tree}
-use Rattle.plain_tree.specs.Built.{CoreAnswers}
+use Rattle.core_rules.specs.Built.{CoreAnswers}
 
 -- the frame behind the answers to the calls
 abbrev pub verdict_frame : Verdict → List ℕ

@@ -6,7 +6,7 @@ ghost use Rattle.op_frames.specs.Replies.{is_reply};
 ghost use Rattle.op_frames.specs.Replay.{input_limit};
 ghost use Rattle.plain_tree.specs.Tree.{Tree, made_tree};
 ghost use Rattle.s3_rows.specs.Made.{made_tables};
-ghost use Rattle.plain_tree.specs.Built.{IsCoreAnswer};
+ghost use Rattle.core_rules.specs.Built.{IsCoreAnswer};
 ghost use Rattle.offline_tool.specs.Serving.{Serves};
 
 use op_frames::{Op, Reply};

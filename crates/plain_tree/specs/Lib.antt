@@ -1,6 +1,5 @@
 pub mod Attributes
 pub mod Below
-pub mod Built
 pub mod Calls
 pub mod Checks
 pub mod Classes

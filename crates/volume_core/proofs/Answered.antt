@@ -17,7 +17,7 @@ use Rattle.volume_core.specs.declared.refusal.Refusal.{Refusal}
 use Rattle.volume_core.specs.declared.refusal.Refusal.TheVariants.{Refused, Worn, Keeper, Memory}
 use Rattle.volume_core.specs.declared.row_core.RowCore.{RowCore}
 use Rattle.volume_core.specs.Answers.{keeper_failed, no_space, is_keeper_fault, changes_rows, IsRowAnswer}
-use Rattle.plain_tree.specs.Built.{is_built, not_built}
+use Rattle.core_rules.specs.Built.{is_built, not_built}
 use Rattle.volume_core.specs.Standing.{StandsFor, IsToldAfter}
 use Rattle.volume_core.specs.Refusals.{IsOutcome}
 

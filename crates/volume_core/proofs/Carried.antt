@@ -3,7 +3,7 @@ use Rattle.std.proofs.Common.{◌≡◌, ℕ, ◌^◌, Bool, true, false, Option
 use Rattle.std.specs.Prelude.{IsTrue, nat_le, is_err, OnOk, OnErr, ◌&&◌, ◌||◌}
 use Rattle.op_frames.specs.declared.operation.Op.{Op}
 use Rattle.op_frames.specs.declared.reply.Reply.{Reply}
-use Rattle.plain_tree.specs.Built.{is_built}
+use Rattle.core_rules.specs.Built.{is_built}
 use Rattle.plain_tree.specs.Classes.{class_of, is_of_inodes, is_of_entries, is_closing, keeps_rows, names_drawn}
 use Rattle.plain_tree.specs.Tree.{Tree}
 use Rattle.plain_tree.specs.Checks.{fails_with, first_failure, hand_check}

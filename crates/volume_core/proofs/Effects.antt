@@ -14,7 +14,7 @@ use Rattle.op_frames.specs.declared.reply.Reply.TheVariants as replies
 use Rattle.plain_tree.specs.Tree as tree
 use Rattle.plain_tree.specs.Tree.{Content, Node, Tree, node_at, handle_of, change_node, with_node, with_handle, without_handle, named, touched, stamped}
 use Rattle.plain_tree.specs.Attributes.{attr_of}
-use Rattle.plain_tree.specs.Built.{is_built}
+use Rattle.core_rules.specs.Built.{is_built}
 use Rattle.plain_tree.specs.Classes.{Bytes, Class, Trees, class_of, is_of_entries, is_of_inodes}
 use Rattle.plain_tree.specs.WellFormed.{IsWellFormed}
 use Rattle.plain_tree.specs.Checks.{first_failure, node_check, file_check, hand_check, open_check}

@@ -11,7 +11,7 @@ use Rattle.plain_tree.specs.Operations.{checks}
 use Rattle.s3_rows.specs.Told.{Told, IfTold}
 use Rattle.plain_tree.specs.Classes.{keeps_rows, names_drawn}
 use Rattle.ref_counts.specs.Plans.{IsWorn}
-use Rattle.plain_tree.specs.Built.{is_built, core_reply, core_tree}
+use Rattle.core_rules.specs.Built.{is_built, core_reply, core_tree}
 use Rattle.volume_core.specs.Standing.{IsToldAfter}
 
 -- the reply of a keeper that failed

@@ -5,7 +5,7 @@ use Rattle.op_frames.specs.declared.operation.Op.TheVariants as ops
 use Rattle.op_frames.specs.declared.reply.Reply.{Reply}
 use Rattle.op_frames.specs.declared.reply.Reply.TheVariants as replies
 use Rattle.s3_rows.specs.Told.{Told}
-use Rattle.plain_tree.specs.Built.{is_built}
+use Rattle.core_rules.specs.Built.{is_built}
 use Rattle.plain_tree.specs.Classes.{class_of, is_of_inodes, is_of_entries}
 use Rattle.ref_counts.specs.Handles.{OpenHandles, opened, closed, closed_all}
 use Rattle.ref_counts.specs.declared.plan.Plan.{Plan}

@@ -6,7 +6,7 @@ ghost use Rattle.plain_tree.specs.Tree.{Tree};
 ghost use Rattle.dir_ops.specs.Plans as dir_plans;
 ghost use Rattle.inode_ops.specs.Plans as inode_plans;
 ghost use Rattle.ref_counts.specs.Plans.{HasFitReply, is_fit};
-ghost use Rattle.plain_tree.specs.Built.{is_built};
+ghost use Rattle.core_rules.specs.Built.{is_built};
 ghost use Rattle.volume_core.specs.Plans.{IsTaken, IsOpening, IsFulfilled, inode_opened, inode_of_plan, closed_by};
 ghost use Rattle.volume_core.specs.Refusals.{IsOutcome, has_keeper_failed};
 ghost use Rattle.volume_core.specs.Standing.{StandsFor};

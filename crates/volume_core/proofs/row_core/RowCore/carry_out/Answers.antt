@@ -1,7 +1,7 @@
 use Rattle.std.proofs.Common.{◌≡◌, refl, sym, subst, IsTrue}
 use Rattle.op_frames.specs.declared.operation.Op.{Op}
 use Rattle.op_frames.specs.declared.operation.Op.TheVariants as ops
-use Rattle.plain_tree.specs.Built.{is_built}
+use Rattle.core_rules.specs.Built.{is_built}
 use Rattle.volume_core.specs.Refusals.{IsOutcome}
 use Rattle.volume_core.proofs.Effects.{short_write}
 use Rattle.volume_core.proofs.row_core.RowCore.carry_out.Goals as goal
