@@ -2,8 +2,11 @@ pub mod ChildRow
 pub mod DirectoryRows
 pub mod Entering
 pub mod EntryRows
+pub mod FirstFailures
 pub mod Linked
 pub mod NewDirectory
 pub mod NewEntry
 pub mod NewFile
+pub mod OldDirectory
+pub mod OldEntries
 pub mod Placed

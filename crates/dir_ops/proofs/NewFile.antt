@@ -28,21 +28,10 @@ use Rattle.ref_counts.specs.declared.plan.Plan.TheVariants as plans
 use Rattle.row_steps.specs.RowChanges.{creation, new_file_row, with_drawn}
 use Rattle.dir_ops.specs.Places.{place_checks}
 use Rattle.dir_ops.specs.Plans.{entry_plan}
+use Rattle.dir_ops.proofs.FirstFailures.{failure_stays, first_failure-behind}
 use Rattle.dir_ops.proofs.NewEntry.{creation_planned}
 
 -- ---- checks
-
--- a check behind others that do not fail
-last_check : (others : List (Option ℕ)) (check : Option ℕ) → first_failure others ≡ None → first_failure (others ++ check ∷ []) ≡ first_failure (check ∷ [])
-last_check [] check passes = refl
-last_check (None ∷ others) check passes = last_check others check passes
-last_check (Some errno ∷ others) check passes = absurd (cc passes)
-
--- the first that fails, whatever comes behind it
-failure_stays : (others : List (Option ℕ)) (check : Option ℕ) (errno : ℕ) → first_failure others ≡ Some errno → first_failure (others ++ check ∷ []) ≡ Some errno
-failure_stays [] check errno fails = absurd (cc fails)
-failure_stays (None ∷ others) check errno fails = failure_stays others check errno fails
-failure_stays (Some own ∷ others) check errno fails = fails
 
 -- the check of the handle is that of the handles at hand
 pub hand_is : (whole : Tree) (h : OpenHandles) (full : Bool) → HasHandles h whole → full ≡ nat_le (2 ^ 62) h.next → hand_check whole ≡ fails_with enospc full
@@ -54,13 +43,13 @@ module _ (t : Tables) (whole : Tree) (pass parent mode uid gid now : ℕ) (name 
 
   -- the place is refused
   pub refused_place : (errno : Errno) → first_failure (place_checks whole parent name) ≡ Some errno.0 → IsPlanOf t whole pass (ops.Create parent name mode uid gid) now (plans.Refuse errno)
-  refused_place errno refused = behind ∙ failure_stays (place_checks whole parent name) (hand_check whole) errno.0 refused
+  refused_place errno refused = behind ∙ failure_stays (place_checks whole parent name) (hand_check whole ∷ []) errno.0 refused
 
   -- or no handle is left
   pub refused_hand : (errno : Errno) → first_failure (place_checks whole parent name) ≡ None → hand_check whole ≡ Some errno.0
       → IsPlanOf t whole pass (ops.Create parent name mode uid gid) now (plans.Refuse errno)
   refused_hand errno open_place full =
-      behind ∙ last_check (place_checks whole parent name) (hand_check whole) open_place ∙ ap (λ (check : Option ℕ). first_failure (check ∷ [])) full
+      behind ∙ first_failure-behind (place_checks whole parent name) (hand_check whole ∷ []) open_place ∙ ap (λ (check : Option ℕ). first_failure (check ∷ [])) full
 
   -- ---- the plan
 
@@ -76,7 +65,7 @@ module _ (t : Tables) (whole : Tree) (pass parent mode uid gid now : ℕ) (name 
     after more = tables_after (creation p directory more new now) t
 
     passes : first_failure (checks whole pass (ops.Create parent name mode uid gid)) ≡ None
-    passes = behind ∙ last_check (place_checks whole parent name) (hand_check whole) open_place ∙ ap (λ (check : Option ℕ). first_failure (check ∷ [])) free_hand
+    passes = behind ∙ first_failure-behind (place_checks whole parent name) (hand_check whole ∷ []) open_place ∙ ap (λ (check : Option ℕ). first_failure (check ∷ [])) free_hand
 
     -- the reply is the tree's
     opened_is : (more : Raised) → IsStep t (after more) next 1 → inode_at (after more) p.next_inode ≡ Some new

@@ -1,4 +1,5 @@
 pub mod Entries
 pub mod Links
+pub mod OldEntries
 pub mod Places
 pub mod Plans

@@ -7,8 +7,10 @@ mod link;
 mod lookup;
 mod mkdir;
 pub mod new_entry;
+mod old_entry;
 pub mod places;
 mod plans;
 mod readdir;
+mod rmdir;
 
 pub use plans::plan;

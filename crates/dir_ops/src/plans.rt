@@ -18,13 +18,14 @@ use crate::lookup::plan_lookup;
 use crate::mkdir::plan_mkdir;
 use crate::new_entry::NewInode;
 use crate::readdir::plan_readdir;
+use crate::rmdir::plan_rmdir;
 use op_frames::Op;
 use ref_counts::{Handles, Plan};
 use s3_rows::{Keeper, KeeperFault};
 use std::alloc::Global;
 
-/// The plan of an operation of a pass on entries of directories, at a time: Lookup, Mkdir, Create, Link or Readdir. It commits
-/// nothing.
+/// The plan of an operation of a pass on entries of directories, at a time: Lookup, Mkdir, Create, Rmdir, Link or Readdir. It
+/// commits nothing.
 pub fn plan<K: Keeper>(
     alloc: Global,
     keeper: &mut K,
@@ -80,6 +81,7 @@ pub fn plan<K: Keeper>(
                 now,
             },
         ),
+        Op::Rmdir { parent, name } => plan_rmdir(alloc, keeper, *parent, name, now),
         Op::Link {
             inode,
             parent,

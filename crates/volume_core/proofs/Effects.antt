@@ -18,7 +18,7 @@ use Rattle.core_rules.specs.Built.{is_built}
 use Rattle.plain_tree.specs.Classes.{Bytes, Class, Trees, class_of, is_of_entries, is_of_inodes}
 use Rattle.plain_tree.specs.WellFormed.{IsWellFormed}
 use Rattle.plain_tree.specs.Checks.{first_failure, node_check, file_check, hand_check, open_check}
-use Rattle.plain_tree.specs.Entries.{entry_at, add_entry}
+use Rattle.plain_tree.specs.Entries.{entry_at, add_entry, unnamed}
 use Rattle.plain_tree.specs.Files.{bytes_of, file_at, open_file}
 use Rattle.plain_tree.specs.Operations.{checks, effect, success, attr_reply, new_directory, new_file, make_checks, new_link}
 use Rattle.plain_tree.specs.Pages.{attribute_page, directory_page, with_attribute, without_attribute}
@@ -200,6 +200,8 @@ module _ (t : Tables) (whole : Tree) (v : IsValid t) (same : Represents t whole)
   fulfils (ops.Symlink parent name target uid gid) is passes =
       changes (ops.Symlink parent name target uid gid) (λ node. touched now (record node { content = named name whole.next_inode node.content })) parent whole.next_inode
       (with_node (new_link target uid gid now) whole) (has.0, has.1) refl refl refl
+  fulfils (ops.Rmdir parent name) is passes =
+      keeps (ops.Rmdir parent name) refl refl (own_handles (λ node. touched now (record node { content = unnamed name node.content })) parent whole h has)
   fulfils (ops.Open inode) is passes = record {
     hand = λ x some. open_hand whole pass inode passes;
     handles = open_handles whole pass inode now h has passes;

@@ -44,3 +44,11 @@ returns-in-Link-clause-plan g c =
     (λ t planned v unique whole same well has. subst (λ (op : Op). IsPlanOf t whole c.args.pass op c.args.now p) (sym c.in-Link.is) (planned v unique whole c.args.pass same well))
     own)
     c.plan_link.result c.plan_link.ensures.plan
+
+pub returns-in-Rmdir-clause-plan : goal.returns-in-Rmdir-clause-plan
+returns-in-Rmdir-clause-plan g c =
+    if_ok _ _ (λ p own.
+    IfTold-weaker (g.K.Keeper.told c.args.keeper.now) _ _
+    (λ t planned v unique whole same well has. subst (λ (op : Op). IsPlanOf t whole c.args.pass op c.args.now p) (sym c.in-Rmdir.is) (planned v unique whole c.args.pass same well))
+    own)
+    c.plan_rmdir.result c.plan_rmdir.ensures.plan
