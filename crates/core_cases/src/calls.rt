@@ -49,6 +49,7 @@ const SHAPES: &[(&str, Shape)] = &[
     ("truncate", (6, PLACE_AND_NUMBER)),
     ("mkdir", (7, ENTRY)),
     ("create", (8, ENTRY)),
+    ("unlink", (9, INODE_AND_NAME)),
     ("rmdir", (10, INODE_AND_NAME)),
     ("link", (12, &[Field::Long, Field::Long, Field::Name])),
     (

@@ -9,4 +9,5 @@ pub mod NewEntry
 pub mod NewFile
 pub mod OldDirectory
 pub mod OldEntries
+pub mod OldFile
 pub mod Placed

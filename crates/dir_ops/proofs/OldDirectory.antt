@@ -34,13 +34,13 @@ use Rattle.ref_counts.specs.Removals.{removal}
 use Rattle.ref_counts.specs.declared.plan.Plan.{Plan}
 use Rattle.ref_counts.specs.declared.plan.Plan.TheVariants as plans
 use Rattle.row_steps.specs.RowChanges.{dropping, touched_row}
-use Rattle.row_steps.proofs.Leaving.{IsLeaving, child_number, entry_is, named}
+use Rattle.row_steps.proofs.Leaving.{IsLeaving, child_number, named}
 use Rattle.dir_ops.specs.declared.old_entry.OldEntry.{OldEntry}
 use Rattle.dir_ops.specs.OldEntries.{IsOldEntry}
 use Rattle.dir_ops.specs.Plans.{entry_plan}
 use Rattle.dir_ops.proofs.Entering.{some_changes}
 use Rattle.dir_ops.proofs.FirstFailures.{failure_stays, first_failure-behind}
-use Rattle.dir_ops.proofs.OldEntries.{child_parts, leaving, name_found}
+use Rattle.dir_ops.proofs.OldEntries.{child_is, child_parts, is_leaving, old_name}
 
 -- ---- a page from the empty name on
 
@@ -81,15 +81,13 @@ module _ (t : Tables) (whole : Tree) (v : IsValid t) (unique : HasUniqueNames t)
 
   module _ (old : OldEntry) (is : IsOldEntry t whole parent name (Ok old)) where
     abbrev n : Name
-    n = (name_found t parent name old.entry old.child is.1 v unique).0
+    n = old_name t whole v unique same parent name old is
 
-    is_leaving : IsLeaving t whole v.params old.directory old.child old.entry n parent name
-    is_leaving =
-        let found = name_found t parent name old.entry old.child is.1 v unique in
-        leaving t whole v same parent name old is found.0 found.1 found.2
+    abbrev leaves : IsLeaving t whole v.params old.directory old.child old.entry n parent name
+    leaves = is_leaving t whole v unique same parent name old is
 
-    child_is : child_at whole parent name ≡ node_at whole old.entry.inode
-    child_is = ap (option_and_then (node_at whole)) (entry_is t whole v.params old.directory old.child old.entry n now parent name is_leaving)
+    abbrev node_is : child_at whole parent name ≡ node_at whole old.entry.inode
+    node_is = child_is t whole v unique same parent name old is
 
     abbrev row_checks : Bool → List (Option ℕ)
     row_checks full = directory_row_check (Some old.child) ∷ lock_row_check (Some old.child) ∷ fails_with enotempty full ∷ []
@@ -98,23 +96,23 @@ module _ (t : Tables) (whole : Tree) (v : IsValid t) (unique : HasUniqueNames t)
     checks-rows : (full : Bool) → full ≡ nat_lt 0 (length (entries_listed t old.child.id [] 1)) → first_failure (checks whole pass (ops.Rmdir parent name)) ≡ first_failure (row_checks full)
     checks-rows full full_is =
         first_failure-behind (drop_checks whole parent name) (directory_check (child_at whole parent name) ∷ lock_check (child_at whole parent name) ∷ empty_check (child_at whole parent name) ∷ []) is.2
-        ∙ (λ i. first_failure (directory i ∷ lock i ∷ empty_check (child_is i) ∷ []))
+        ∙ (λ i. first_failure (directory i ∷ lock i ∷ empty_check (node_is i) ∷ []))
         ∙ by_kind old.child.kind refl
       where
         row : inode_at t old.entry.inode ≡ Some old.child
         row = (child_parts t parent name old.entry old.child is.1).1
 
         directory : directory_check (child_at whole parent name) ≡ directory_row_check (Some old.child)
-        directory = ap directory_check child_is ∙ directory_check-row t whole same old.entry.inode ∙ ap directory_row_check row
+        directory = ap directory_check node_is ∙ directory_check-row t whole same old.entry.inode ∙ ap directory_row_check row
 
         lock : lock_check (child_at whole parent name) ≡ lock_row_check (Some old.child)
-        lock = ap lock_check child_is ∙ lock_check-row t whole same old.entry.inode ∙ ap lock_row_check row
+        lock = ap lock_check node_is ∙ lock_check-row t whole same old.entry.inode ∙ ap lock_row_check row
 
         by_kind : (kind : Kind) → old.child.kind ≡ kind
             → first_failure (fails_with enotdir (not (is_directory kind)) ∷ lock_row_check (Some old.child) ∷ empty_check (node_at whole old.entry.inode) ∷ [])
             ≡ first_failure (fails_with enotdir (not (is_directory kind)) ∷ lock_row_check (Some old.child) ∷ fails_with enotempty full ∷ [])
         by_kind kinds.Directory kind =
-            let number : old.entry.inode ≡ old.child.id = child_number t whole v.params old.directory old.child old.entry n now parent name is_leaving in
+            let number : old.entry.inode ≡ old.child.id = child_number t whole v.params old.directory old.child old.entry n now parent name leaves in
             ap (λ (check : Option ℕ). first_failure (lock_row_check (Some old.child) ∷ check ∷ []))
             (empty_check-page t whole same well old.entry.inode old.child row kind
             ∙ ap (λ x. fails_with enotempty (nat_lt 0 (length (entries_listed t x [] 1)))) number ∙ ap (fails_with enotempty) (sym full_is))
@@ -135,8 +133,8 @@ module _ (t : Tables) (whole : Tree) (v : IsValid t) (unique : HasUniqueNames t)
         (effect whole pass (ops.Rmdir parent name) now) 0)
         → (plan : Plan) → plan ≡ entry_plan (Some batch) replies.Done → IsPlanOf t whole pass (ops.Rmdir parent name) now plan
     directory_planned full full_is passes batch batch_is step plan plan_is =
-        let made = batch_is n (named t whole v.params old.directory old.child old.entry n now parent name is_leaving) in
+        let made = batch_is n (named t whole v.params old.directory old.child old.entry n now parent name leaves) in
         let more : List Change = changes.PutInode (touched_row now old.directory) ∷ lowered n ++ removal t old.child.id (tables_after (dropping old.directory old.entry n now) t) in
         let all_pass = checks-rows full full_is ∙ passes in
         subst (λ (p : Plan). IsPlanOf t whole pass (ops.Rmdir parent name) now p) (sym (plan_is ∙ ap (λ (b : List Change). entry_plan (Some b) replies.Done) made))
-        (all_pass, refl, step n is_leaving.bytes is_leaving.entry is_leaving.child all_pass, some_changes (changes.DeleteContent old.entry.parent old.entry.name_id) more, refl, λ worn. worn)
+        (all_pass, refl, step n leaves.bytes leaves.entry leaves.child all_pass, some_changes (changes.DeleteContent old.entry.parent old.entry.name_id) more, refl, λ worn. worn)

@@ -22,7 +22,7 @@ use Rattle.op_checks.specs.Rows.{row_check, directory_row_check, lock_row_check}
 use Rattle.op_checks.proofs.Nodes.{node_check-row, directory_check-row, lock_check-row}
 use Rattle.op_checks.proofs.RowKinds.{Directory_from_passes}
 use Rattle.ref_counts.proofs.NamedRows.{row_named_none, row_of_id-row_named}
-use Rattle.row_steps.proofs.Leaving.{IsLeaving}
+use Rattle.row_steps.proofs.Leaving.{IsLeaving, entry_is}
 use Rattle.dir_ops.specs.declared.old_entry.OldEntry.{OldEntry}
 use Rattle.dir_ops.specs.OldEntries.{child_of, child_named, child_check, IsOldEntry}
 use Rattle.dir_ops.proofs.EntryRows.{entries_have_names}
@@ -126,3 +126,18 @@ module _ (t : Tables) (whole : Tree) (v : IsValid t) (same : Represents t whole)
       entry = entry;
       child = (child_parts t parent name old.entry old.child is.1).1;
     }
+
+-- ---- the name of the entry, and its node
+
+module _ (t : Tables) (whole : Tree) (v : IsValid t) (unique : HasUniqueNames t) (same : Represents t whole) (parent : ℕ) (name : List ℕ) (old : OldEntry)
+    (is : IsOldEntry t whole parent name (Ok old)) where
+  abbrev pub old_name : Name
+  old_name = (name_found t parent name old.entry old.child is.1 v unique).0
+
+  pub is_leaving : IsLeaving t whole v.params old.directory old.child old.entry old_name parent name
+  is_leaving =
+      let found = name_found t parent name old.entry old.child is.1 v unique in
+      leaving t whole v same parent name old is found.0 found.1 found.2
+
+  pub child_is : tree.child_at whole parent name ≡ node_at whole old.entry.inode
+  child_is = ap (option_and_then (node_at whole)) (entry_is t whole v.params old.directory old.child old.entry old_name 0 parent name is_leaving)

@@ -12,5 +12,6 @@ pub mod places;
 mod plans;
 mod readdir;
 mod rmdir;
+mod unlink;
 
 pub use plans::plan;

@@ -1,5 +1,5 @@
 //! The plan of an operation.
-ghost use Rattle.std.specs.Prelude.{◌≡◌, ◌<◌, ◌^◌, ℕ, IsTrue, IfOk};
+ghost use Rattle.std.specs.Prelude.{◌≡◌, ◌<◌, ◌^◌, ℕ, [], IsTrue, IfOk};
 ghost use Rattle.s3_base.specs.Faults.{HasCause};
 ghost use Rattle.op_frames.specs.Operations.{is_op};
 ghost use Rattle.plain_tree.specs.Tree.{Tree};
@@ -19,13 +19,14 @@ use crate::mkdir::plan_mkdir;
 use crate::new_entry::NewInode;
 use crate::readdir::plan_readdir;
 use crate::rmdir::plan_rmdir;
+use crate::unlink::plan_unlink;
 use op_frames::Op;
 use ref_counts::{Handles, Plan};
 use s3_rows::{Keeper, KeeperFault};
 use std::alloc::Global;
 
-/// The plan of an operation of a pass on entries of directories, at a time: Lookup, Mkdir, Create, Rmdir, Link or Readdir. It
-/// commits nothing.
+/// The plan of an operation of a pass on entries of directories, at a time: Lookup, Mkdir, Create, Unlink, Rmdir, Link or
+/// Readdir. It commits nothing.
 pub fn plan<K: Keeper>(
     alloc: Global,
     keeper: &mut K,
@@ -36,7 +37,8 @@ pub fn plan<K: Keeper>(
 ) -> Result<Plan, KeeperFault>
     requires planned { IsTrue (is_planned op.now) }
     requires now { now < 2 ^ 62 }
-    ensures plan { IfOk result (λ p. IfTold (K.told keeper.old) (λ t. IsValid t → HasUniqueNames t
+    // No file has blocks yet, in the store or in slots.
+    ensures plan { IfOk result (λ p. IfTold (K.told keeper.old) (λ t. IsValid t → HasUniqueNames t → t.inode_blocks ≡ [] → t.slots ≡ []
         → (whole : Tree) → Represents t whole → IsWellFormed whole → HasHandles handles.now whole → IsPlanOf t whole pass op.now now p)) }
     ensures same { K.told keeper.new ≡ K.told keeper.old }
     ensures cause { HasCause (K.faults keeper.old) (K.faults keeper.new) (has_failed result) }
@@ -81,6 +83,7 @@ pub fn plan<K: Keeper>(
                 now,
             },
         ),
+        Op::Unlink { parent, name } => plan_unlink(alloc, keeper, handles, *parent, name, now),
         Op::Rmdir { parent, name } => plan_rmdir(alloc, keeper, *parent, name, now),
         Op::Link {
             inode,

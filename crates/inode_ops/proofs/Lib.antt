@@ -1,3 +1,4 @@
+pub mod Closed
 pub mod Counted
 pub mod NewLink
 pub mod NodeRows

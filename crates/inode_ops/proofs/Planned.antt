@@ -1,6 +1,6 @@
 -- Plans that are right.
-use Rattle.std.proofs.Common.{◌≡◌, ◌<◌, ◌^◌, ℕ, List, [], ◌∷◌, Bool, true, false, cond, Option, None, Some, Result, Ok, Err, refl, sym, ap, ◌∙◌, subst, arith}
-use Rattle.std.specs.Prelude.{IsTrue, ◌==◌, not, IfOk}
+use Rattle.std.proofs.Common.{◌≡◌, ◌<◌, ◌^◌, ℕ, List, [], ◌∷◌, true, false, cond, Option, None, Some, Result, Ok, Err, refl, sym, ap, ◌∙◌, subst, arith}
+use Rattle.std.specs.Prelude.{IfOk}
 use Rattle.std.specs.Cmp.{nat_cmp_total, tied_itself}
 use Rattle.std.specs.Ordering.{is_eq}
 use Rattle.s3_base.specs.declared.errors.Errno.{Errno}
@@ -18,9 +18,7 @@ use Rattle.s3_rows.specs.Tables.{Tables, by_inode}
 use Rattle.s3_rows.specs.Batches.{after_change}
 use Rattle.s3_rows.specs.Selections.{inode_at}
 use Rattle.s3_rows.specs.Validity.{IsValid, HasUniqueNames}
-use Rattle.s3_rows.specs.Keyed.{has_key}
-use Rattle.row_lemmas.proofs.Tests.{find_passes_all}
-use Rattle.row_lemmas.proofs.Keyed.Put.{row_at-put, list_all-put}
+use Rattle.row_lemmas.proofs.Keyed.Put.{row_at-put}
 use Rattle.row_lemmas.proofs.ReplacedInode.{replaced_valid}
 use Rattle.tree_rows.specs.Attrs.{attr_of_row}
 use Rattle.tree_rows.specs.Shapes.{NodeShape, shape_of_node, node_of_row, Represents}
@@ -30,7 +28,7 @@ use Rattle.tree_rows.proofs.Whole.{number_of}
 use Rattle.op_checks.specs.Checks.{Checks}
 use Rattle.op_checks.specs.Rows.{row_check, lock_row_check}
 use Rattle.op_checks.proofs.Nodes.{node_check-row, lock_check-row}
-use Rattle.ref_counts.specs.Plans.{IsPlanOf, IsStep, LeavesRest, IsSmall, AreNamed}
+use Rattle.ref_counts.specs.Plans.{IsPlanOf, IsStep, LeavesRest, IsSmall}
 use Rattle.ref_counts.specs.Answers.{answer_plan, IsReplyOf}
 use Rattle.ref_counts.proofs.Idle.{IsWorn-nameless, IsPlanOf-idle, if_reply_of}
 use Rattle.inode_ops.specs.Answers.{put_plan, IsChangedRow}
@@ -44,20 +42,13 @@ same_rest t rows = record { params = refl; next_inode = omega arith; next_name =
 same_small : (t : Tables) (rows : List Inode) (drawn : ℕ) → IsSmall drawn t (record t { inodes = rows })
 same_small t rows drawn = record { names = omega arith; uses = omega arith }
 
--- an inode's row is replaced by one of the same count
-replaced_named : (t : Tables) (r new : Inode) → inode_at t new.id ≡ Some r → new.refcount ≡ r.refcount → AreNamed t → AreNamed (after_change (changes.PutInode new) t)
-replaced_named t r new is count named =
-    let has_name : Inode → Bool = λ x. not (x.refcount == 0) in
-    let own : IsTrue (has_name new) = ap (λ n. not (n == 0)) count ∙ find_passes_all (has_key by_inode new.id) has_name t.inodes r named is in
-    list_all-put by_inode has_name new t.inodes own named
-
-pub replaced : (t : Tables) (next : Tree) (drawn : ℕ) (r new : Inode) → inode_at t new.id ≡ Some r → new.refcount ≡ r.refcount → IsValid (after_change (changes.PutInode new) t)
+-- an inode's row is replaced
+pub replaced : (t : Tables) (next : Tree) (drawn : ℕ) (new : Inode) → IsValid (after_change (changes.PutInode new) t)
     → Represents (after_change (changes.PutInode new) t) next → IsStep t (after_change (changes.PutInode new) t) next drawn
-replaced t next drawn r new is count valid represents = record {
+replaced t next drawn new valid represents = record {
   valid = valid;
   represents = represents;
   unique = λ (u : HasUniqueNames t). u;
-  named = replaced_named t r new is count;
   rest = same_rest t (after_change (changes.PutInode new) t).inodes;
   small = same_small t (after_change (changes.PutInode new) t).inodes drawn;
 }
@@ -105,7 +96,7 @@ module _ (t : Tables) (whole : Tree) (pass x : ℕ) (op : Op) (now : ℕ) (chang
       let next : Tree = change_node new.id f whole in
       let valid : IsValid after = replaced_valid t r new v there (ap (λ (y : Inode). y.kind) made ∙ alike.kind r) (ap (λ (y : Inode). y.refcount) made ∙ alike.count r) (ap (λ (y : Inode). y.size) made ∙ alike.size r) in
       let represents : Represents after next = replaced_represents t whole r new f v.ordered.inodes same there (λ node shape. alike.node node r shape ∙ ap (node_of_row t) (sym made)) in
-      let step : IsStep t after next (names_drawn whole op) = replaced t next (names_drawn whole op) r new there (ap (λ (y : Inode). y.refcount) made ∙ alike.count r) valid represents in (
+      let step : IsStep t after next (names_drawn whole op) = replaced t next (names_drawn whole op) new valid represents in (
         passes,
         sym (attr_is after next new.id new valid represents (put_there t new) few) ∙ ap (λ y. attr_reply (change_node y f whole) y) (sym own) ∙ sym gives,
         subst (λ (y : Tree). IsStep t after y (names_drawn whole op)) (ap (λ y. change_node y f whole) (sym own) ∙ sym does) step,

@@ -34,7 +34,7 @@ use Rattle.inode_ops.specs.SetAttrs.{IsAdding, IsSetting}
 use Rattle.inode_ops.proofs.Planned.{there, unlocked}
 
 -- a batch with a change in it, behind others
-some_change : (c : Change) (cs : List Change) → (length (c ∷ cs) == 0) ≡ false
+pub some_change : (c : Change) (cs : List Change) → (length (c ∷ cs) == 0) ≡ false
 some_change c cs = by_case (length (c ∷ cs) == 0) refl
   where
     by_case : (b : Bool) → (length (c ∷ cs) == 0) ≡ b → b ≡ false

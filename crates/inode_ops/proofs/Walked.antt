@@ -18,7 +18,11 @@ use Rattle.s3_rows.specs.Selections.{is_number_past, is_pair_past, is_row_past, 
 use Rattle.s3_rows.specs.Told.{key_of_row, rows_rise}
 use Rattle.row_lemmas.proofs.Tests.{list_all_weaker, less_from_is_lt}
 use Rattle.row_lemmas.proofs.Tables.{pair_cmp_total}
-use Rattle.inode_ops.proofs.Opened.{all_kept}
+
+all_kept : {X : Type 0} (p : X → Bool) (xs : List X) → IsTrue (list_all p xs) → filter p xs ≡ xs
+all_kept p [] all = refl
+all_kept p (x ∷ xs) all =
+    ap (λ b. cond b (x ∷ filter p xs) (filter p xs)) (and_parts (p x) (list_all p xs) all).0 ∙ ap (λ ys. x ∷ ys) (all_kept p xs (and_parts (p x) (list_all p xs) all).1)
 
 -- ---- keys
 

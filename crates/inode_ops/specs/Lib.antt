@@ -1,4 +1,5 @@
 pub mod Answers
+pub mod Nameless
 pub mod Plans
 pub mod SetAttrs
 pub mod Tallies

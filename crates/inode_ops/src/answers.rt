@@ -1,5 +1,6 @@
 //! Plans made of what checks have answered.
-ghost use Rattle.std.specs.Prelude.{◌≡◌, IfOk};
+ghost use Rattle.std.specs.Prelude.{◌≡◌, [], IfOk};
+ghost use Rattle.op_frames.specs.declared.reply.Reply.TheVariants as replies;
 ghost use Rattle.ref_counts.specs.Plans.{HasFitReply};
 ghost use Rattle.inode_ops.specs.Answers.{put_plan};
 
@@ -25,4 +26,16 @@ pub fn put(alloc: Global, changed: Result<InodeRow, Errno>) -> Result<Plan, Allo
         reply: Reply::Attr(attr_of(&row)),
         drop: Sequence::new(alloc),
     })
+}
+
+/// The batch is committed, and there is nothing to answer but that.
+pub fn done(alloc: Global, batch: Batch) -> Plan
+    ensures plan { result ≡ Plan.Commit batch replies.Done [] }
+    ensures fit { HasFitReply result }
+{
+    Plan::Commit {
+        batch,
+        reply: Reply::Done,
+        drop: Sequence::new(alloc),
+    }
 }

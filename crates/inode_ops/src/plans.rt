@@ -1,5 +1,5 @@
 //! The plans of all operations of this crate.
-ghost use Rattle.std.specs.Prelude.{◌≡◌, ◌<◌, ◌^◌, ℕ, IsTrue, IfOk};
+ghost use Rattle.std.specs.Prelude.{◌≡◌, ◌<◌, ◌^◌, ℕ, [], IsTrue, IfOk};
 ghost use Rattle.s3_base.specs.Faults.{HasCause};
 ghost use Rattle.s3_rows.specs.Told.{IfTold, has_failed};
 ghost use Rattle.s3_rows.specs.Validity.{IsValid, HasUniqueNames};
@@ -7,19 +7,18 @@ ghost use Rattle.plain_tree.specs.Tree.{Tree};
 ghost use Rattle.plain_tree.specs.WellFormed.{IsWellFormed};
 ghost use Rattle.tree_rows.specs.Shapes.{Represents};
 ghost use Rattle.ref_counts.specs.Handles.{HasHandles};
-ghost use Rattle.plain_tree.specs.Classes.{class_of, is_closing};
-ghost use Rattle.ref_counts.specs.Plans.{AreNamed, IsPlanOf, HasFitReply};
+ghost use Rattle.ref_counts.specs.Plans.{IsPlanOf, HasFitReply};
 ghost use Rattle.inode_ops.specs.Plans.{is_planned};
 
 use crate::attributes::{chmod_of, chown_of, getattr_of, utimes_of};
-use crate::handles_of::{open_of, release};
+use crate::handles_of::{leave, open_of, release};
 use crate::reading::{getxattr, listxattr, readlink};
 use crate::statfs::statfs;
 use crate::symlink::{LINK_MODE, plan_symlink};
 use crate::xattrs::{removexattr, setxattr};
 use dir_ops::new_entry::NewInode;
-use op_frames::{Op, Reply};
-use ref_counts::{Handles, Plan, answer};
+use op_frames::Op;
+use ref_counts::{Handles, Plan};
 use s3_rows::{Keeper, KeeperFault};
 use std::alloc::Global;
 
@@ -35,8 +34,8 @@ pub fn plan<K: Keeper>(
 ) -> Result<Plan, KeeperFault>
     requires planned { IsTrue (is_planned op.now) }
     requires now { now < 2 ^ 62 }
-    // Where handles go, every inode has a name, so that nothing goes with them.
-    ensures plan { IfOk result (λ p. IfTold (K.told keeper.old) (λ t. IsValid t → HasUniqueNames t → (IsTrue (is_closing (class_of op.now)) → AreNamed t)
+    // No file has blocks yet, in the store or in slots.
+    ensures plan { IfOk result (λ p. IfTold (K.told keeper.old) (λ t. IsValid t → HasUniqueNames t → t.inode_blocks ≡ [] → t.slots ≡ []
         → (whole : Tree) → Represents t whole → IsWellFormed whole → HasHandles handles.now whole → IsPlanOf t whole pass op.now now p)) }
     ensures same { K.told keeper.new ≡ K.told keeper.old }
     ensures cause { HasCause (K.faults keeper.old) (K.faults keeper.new) (has_failed result) }
@@ -94,7 +93,7 @@ pub fn plan<K: Keeper>(
         Op::Getxattr { inode, name } => getxattr(alloc, keeper, *inode, name),
         Op::Listxattr { inode, after, max } => listxattr(alloc, keeper, *inode, after, *max),
         Op::Removexattr { inode, name } => removexattr(alloc, keeper, *inode, name, now),
-        Op::Leave => Ok(answer(alloc, Ok(Reply::Done))),
+        Op::Leave => leave(alloc, keeper, handles, pass),
         _ => unreachable!(),
     }
 }

@@ -20,12 +20,13 @@ ghost use Rattle.ref_counts.specs.Plans.{IsPlanOf, HasFitReply};
 ghost use Rattle.row_steps.specs.RowChanges.{removing_attr, setting_attr};
 ghost use Rattle.inode_ops.specs.SetAttrs.{IsAdding, IsSetting};
 
+use crate::answers::done;
 use op_checks::{
     check_attribute, check_attribute_name, check_flag, check_node, check_unlocked, check_value,
 };
-use op_frames::{Reply, SetFlag};
+use op_frames::SetFlag;
 use ref_counts::{Plan, name_up};
-use s3_base::{ByteList, Errno, Sequence};
+use s3_base::{ByteList, Errno};
 use s3_rows::{AttrRow, Batch, Change, InodeRow, Keeper, KeeperFault, NameRow};
 use std::alloc::{AllocError, Global};
 
@@ -42,18 +43,6 @@ fn find_attr<K: Keeper>(
     match keeper.name_id(name)? {
         Some(id) => keeper.attr(inode, id),
         None => Ok(None),
-    }
-}
-
-/// The batch is committed, and there is nothing to answer but that.
-fn done(alloc: Global, batch: Batch) -> Plan
-    ensures plan { result ≡ Plan.Commit batch replies.Done [] }
-    ensures fit { HasFitReply result }
-{
-    Plan::Commit {
-        batch,
-        reply: Reply::Done,
-        drop: Sequence::new(alloc),
     }
 }
 

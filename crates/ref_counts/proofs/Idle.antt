@@ -14,7 +14,7 @@ use Rattle.s3_rows.specs.Tables.{Tables}
 use Rattle.s3_rows.specs.Validity.{IsValid, HasUniqueNames}
 use Rattle.tree_rows.specs.Shapes.{Represents}
 use Rattle.ref_counts.specs.Answers.{IsReplyOf}
-use Rattle.ref_counts.specs.Plans.{AreNamed, IsPlanOf, IsStep, IsWorn, IsWornFor}
+use Rattle.ref_counts.specs.Plans.{IsPlanOf, IsStep, IsWorn, IsWornFor}
 use Rattle.ref_counts.specs.declared.plan.Plan.TheVariants as plans
 
 -- no change is a step
@@ -23,7 +23,6 @@ IsStep-same t next drawn v same = record {
   valid = v;
   represents = same;
   unique = λ (u : HasUniqueNames t). u;
-  named = λ (n : AreNamed t). n;
   rest = record { params = refl; next_inode = omega arith; next_name = omega arith; inode_blocks = refl; blocks = refl; objects = refl; slots = refl };
   small = record { names = omega arith; uses = omega arith };
 }

@@ -1,4 +1,5 @@
 pub mod AttrKeys
+pub mod Held
 pub mod Idle
 pub mod NameRows
 pub mod Named

@@ -1,5 +1,6 @@
 -- Open handles, apart from the tree that they are of.
-use Rattle.std.specs.Prelude.{◌≡◌, ℕ, ◌+◌, ◌<◌, ◌==◌, List, [], All, not, filter, Option, option_map}
+use Rattle.std.specs.Prelude.{◌≡◌, ℕ, ◌+◌, ◌<◌, ◌==◌, List, [], All, Bool, not, ◌&&◌, filter, Option, option_map}
+use Rattle.std.specs.List.{list_any}
 use Rattle.std.specs.Map.{keys_of, lookup, remove_entry}
 use Rattle.std.specs.Ordering.{nat_cmp}
 use Rattle.std.specs.BTreeMap.{insert_entry, is_at}
@@ -36,3 +37,11 @@ closed number h = record h { handles = remove_entry (is_at (nat_cmp number)) h.h
 -- without the handles of a pass
 abbrev pub closed_all : ℕ → OpenHandles → OpenHandles
 closed_all pass h = record h { handles = filter (λ e. not (e.1.pass == pass)) h.handles }
+
+-- some handle is open on the inode
+abbrev pub is_held : OpenHandles → ℕ → Bool
+is_held h inode = list_any (λ e. e.1.inode == inode) h.handles
+
+-- handles of the pass are, and no other one
+abbrev pub is_held_alone : ℕ → OpenHandles → ℕ → Bool
+is_held_alone pass h inode = is_held h inode && not (is_held (closed_all pass h) inode)

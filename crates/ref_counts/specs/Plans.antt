@@ -1,6 +1,5 @@
 -- When the plan of an operation is right: the tree's own refusal, or a batch after which tables represent the tree's next.
-use Rattle.std.specs.Prelude.{◌≡◌, ◌⊎◌, ℕ, ◌+◌, ◌^◌, ◌≤◌, ◌==◌, List, [], length, Bool, true, false, not, ◌&&◌, IsTrue, Option, None, Some, option_map, unwrap_or}
-use Rattle.std.specs.List.{list_all}
+use Rattle.std.specs.Prelude.{◌≡◌, ◌⊎◌, ℕ, ◌+◌, ◌^◌, ◌≤◌, ◌==◌, List, [], length, Bool, true, false, ◌&&◌, IsTrue, Option, None, Some, option_map, unwrap_or}
 use Rattle.op_frames.specs.declared.operation.Op.{Op}
 use Rattle.op_frames.specs.declared.reply.Reply.{Reply}
 use Rattle.op_frames.specs.declared.reply.Reply.TheVariants as replies
@@ -18,10 +17,6 @@ use Rattle.tree_rows.specs.Shapes.{Represents}
 use Rattle.ref_counts.specs.Names.{raised}
 use Rattle.ref_counts.specs.declared.plan.Plan.{Plan}
 use Rattle.ref_counts.specs.declared.plan.Plan.TheVariants as plans
-
--- every inode has a name, so no file is kept by handles alone
-abbrev pub AreNamed : Tables → Type 0
-AreNamed t = IsTrue (list_all (λ r. not (r.refcount == 0)) t.inodes)
 
 -- the numbers that the next new inode and name get
 abbrev pub next_inode_of : Tables → ℕ
@@ -59,7 +54,6 @@ pub record IsStep (t after : Tables) (next : Tree) (drawn : ℕ) : Type 0 where
   pub valid : IsValid after
   pub represents : Represents after next
   pub unique : HasUniqueNames t → HasUniqueNames after
-  pub named : AreNamed t → AreNamed after
   pub rest : LeavesRest t after
   pub small : IsSmall drawn t after
 

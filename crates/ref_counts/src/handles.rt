@@ -1,9 +1,11 @@
 //! Open handles.
-ghost use Rattle.std.specs.Prelude.{◌≡◌, ◌<◌, ◌^◌, ℕ, nat_le, OnOk, OnErr};
+ghost use Rattle.std.specs.Prelude.{◌≡◌, ◌==◌, ◌&&◌, ◌<◌, ◌^◌, ◌++◌, ℕ, [], ◌∷◌, nat_le, not, if◌then◌else◌, IsTrue, IfOk, OnOk, OnErr};
 ghost use Rattle.plain_tree.specs.Tree as tree;
-ghost use Rattle.ref_counts.specs.Handles.{OpenHandles, AllBelow, no_handles, inode_open, opened, closed, closed_all};
+ghost use Rattle.plain_tree.specs.Below.{is_among};
+ghost use Rattle.s3_rows.specs.Validity.{differ};
+ghost use Rattle.ref_counts.specs.Handles.{OpenHandles, AllBelow, no_handles, inode_open, opened, closed, closed_all, is_held, is_held_alone};
 
-use s3_base::LIMIT;
+use s3_base::{LIMIT, NumberList};
 use std::alloc::{AllocError, Global};
 use std::collections::BTreeMap;
 use std::marker::Model;
@@ -63,6 +65,60 @@ impl Handles {
         } else {
             None
         }
+    }
+
+    /// A handle is open on the inode.
+    pub fn is_held(&self, inode: u64) -> bool
+        ensures { result ≡ is_held self.now inode }
+    {
+        self.entries.iter().any(|(_, handle)| handle.inode == inode)
+    }
+
+    /// A handle is open on the inode beside the one of this number.
+    pub fn is_held_beside(&self, number: u64, inode: u64) -> bool
+        ensures { result ≡ is_held (closed number self.now) inode }
+    {
+        self.entries.iter().any(|(other, handle)| *other != number && handle.inode == inode)
+    }
+
+    /// A handle of another pass is open on the inode.
+    fn is_held_by_others(&self, pass: u64, inode: u64) -> bool
+        ensures { result ≡ is_held (closed_all pass self.now) inode }
+    {
+        self.entries
+            .iter()
+            .any(|(_, handle)| handle.pass != pass && handle.inode == inode)
+    }
+
+    /// Adds the inode of a handle, where the pass has it open, no other pass has, and it is not listed yet.
+    fn list_held_alone(
+        &self,
+        inodes: &mut NumberList,
+        pass: u64,
+        handle: &Handle,
+    ) -> Result<(), AllocError>
+        ensures { OnOk result (inodes.new ≡ (if handle.now.pass == pass && not (is_among inodes.old handle.now.inode) && not (is_held (closed_all pass self.now) handle.now.inode)
+            then inodes.old ++ handle.now.inode ∷ [] else inodes.old)) }
+    {
+        if handle.pass == pass
+            && !inodes.as_slice().contains(&handle.inode)
+            && !self.is_held_by_others(pass, handle.inode)
+        {
+            inodes.push(handle.inode)?;
+        }
+        Ok(())
+    }
+
+    /// The inodes that handles of the pass have open, and no other handle has: each once.
+    pub fn held_alone(&self, alloc: Global, pass: u64) -> Result<NumberList, AllocError>
+        ensures once { IfOk result (λ xs. IsTrue (differ (λ a b. b == a) xs)) }
+        ensures alone { IfOk result (λ xs. (x : ℕ) → is_among xs x ≡ is_held_alone pass self.now x) }
+    {
+        let mut inodes = NumberList::new(alloc);
+        for handle in self.entries.values() {
+            self.list_held_alone(&mut inodes, pass, handle)?;
+        }
+        Ok(inodes)
     }
 
     /// The number that the next handle gets.

@@ -1,7 +1,6 @@
 -- Attributes that are set and removed: an inode has one more, another value of one, or one less, and is stamped.
 use Rattle.std.proofs.Common.{◌≡◌, ℕ, suc, List, [], ◌∷◌, length, true, false, Option, None, Some, refl, sym, ap, ◌∙◌, subst, arith}
-use Rattle.std.specs.Prelude.{IsTrue, not, ◌==◌, is_some, option_map, unwrap_or}
-use Rattle.std.specs.List.{list_all}
+use Rattle.std.specs.Prelude.{IsTrue, is_some, option_map, unwrap_or}
 use Rattle.std.specs.Cmp.{nat_cmp_total}
 use Rattle.std.proofs.lemmas.Bool.{and_from, and_parts}
 use Rattle.op_frames.specs.declared.operation.Op.TheVariants as ops
@@ -17,9 +16,9 @@ use Rattle.s3_rows.specs.Tables.{Tables, by_attr, by_inode, by_name}
 use Rattle.s3_rows.specs.Batches.{tables_after}
 use Rattle.s3_rows.specs.Selections.{inode_at, name_at, attr_at}
 use Rattle.s3_rows.specs.Validity.{IsValid, HasUniqueNames, any_kind, finds_of_attr, has_inode}
-use Rattle.row_lemmas.proofs.Tests.{find_passes, find_passes_all, pair_parts}
+use Rattle.row_lemmas.proofs.Tests.{find_passes, pair_parts}
 use Rattle.row_lemmas.proofs.Keyed.RowAt.{row_at_passes}
-use Rattle.row_lemmas.proofs.Keyed.Put.{length-put_new, length-put_there, list_all-put, row_at-put_same}
+use Rattle.row_lemmas.proofs.Keyed.Put.{length-put_new, length-put_there, row_at-put_same}
 use Rattle.row_lemmas.proofs.Keyed.Count.{length-without_there}
 use Rattle.row_lemmas.proofs.Tables.{pair_cmp_total, tables_after-tables_after}
 use Rattle.tree_laws.proofs.WellFormed.{IsWellFormed-effect}
@@ -29,7 +28,7 @@ use Rattle.tree_rows.proofs.NamedAttrs.{IsAttrNamed, IsAttrNamed_from_row, attr_
 use Rattle.tree_rows.proofs.Validity.Tables.{IsValid_from_tree}
 use Rattle.tree_rows.proofs.Whole.{number_of}
 use Rattle.ref_counts.specs.Names.{Raised, lowered, raised}
-use Rattle.ref_counts.specs.Plans.{AreNamed, IsStep, next_inode_of, next_name_of, settings}
+use Rattle.ref_counts.specs.Plans.{IsStep, next_inode_of, next_name_of, settings}
 use Rattle.row_steps.specs.Owed.{Owes}
 use Rattle.row_steps.specs.RowChanges.{adding_attr, removing_attr, setting_attr, stamped_row}
 use Rattle.row_steps.proofs.Owed.Attrs.{Owes-put_attr_new, Owes-put_attr_there, Owes-without_attr}
@@ -40,13 +39,6 @@ use Rattle.row_steps.proofs.Owed.Names.{KeepsBytes-put, any_name}
 use Rattle.row_steps.proofs.Owed.Raised.{IsRaise, IsRaise-raised}
 use Rattle.row_steps.proofs.Shape.Attributes.{Represents-put_attr, Represents-without_attr}
 use Rattle.row_steps.proofs.Shape.Names.{Represents-names}
-
--- inodes stay named where one is stamped
-AreNamed-stamped : (t : Tables) (r : Inode) (now : ℕ) → inode_at t r.id ≡ Some r → AreNamed t
-    → IsTrue (list_all (λ (x : Inode). not (x.refcount == 0)) (put by_inode (stamped_row now r) t.inodes))
-AreNamed-stamped t r now there all =
-    list_all-put by_inode (λ (x : Inode). not (x.refcount == 0)) (stamped_row now r) t.inodes
-    (find_passes_all (has_key by_inode r.id) (λ (x : Inode). not (x.refcount == 0)) t.inodes r all there) all
 
 module _ (t : Tables) (whole : Tree) (p : Parameters) (r : Inode) (name : List ℕ) (now : ℕ) (v : IsValid t) (unique : HasUniqueNames t)
     (same : Represents t whole) (made : t.params ≡ Some p) (there : inode_at t r.id ≡ Some r) where
@@ -123,7 +115,6 @@ module _ (t : Tables) (whole : Tree) (p : Parameters) (r : Inode) (name : List �
           valid = IsValid_from_tree added next (HasPremises-Owes added (record p { next_name = raise.next }) owes_added) represents_added well;
           represents = represents_added;
           unique = λ unique. raise.unique unique;
-          named = AreNamed-stamped t r now there;
           rest = record {
             params = sym (ap (option_map settings) made);
             next_inode = omega (arith, inode);
@@ -168,7 +159,6 @@ module _ (t : Tables) (whole : Tree) (p : Parameters) (r : Inode) (name : List �
             valid = IsValid_from_tree set next (HasPremises-Owes set p owes_set) represents_set well;
             represents = represents_set;
             unique = λ unique. unique;
-            named = AreNamed-stamped t r now there;
             rest = record { params = refl; next_inode = omega arith; next_name = omega arith; inode_blocks = refl; blocks = refl; objects = refl; slots = refl };
             small = record { names = omega arith; uses = omega (arith, as_long) };
           }
@@ -208,7 +198,6 @@ module _ (t : Tables) (whole : Tree) (p : Parameters) (r : Inode) (name : List �
           valid = IsValid_from_tree gone next (HasPremises-Owes gone p lower.owes) represents_gone well;
           represents = represents_gone;
           unique = λ unique. lower.unique unique;
-          named = AreNamed-stamped t r now there;
           rest = record { params = refl; next_inode = omega arith; next_name = omega arith; inode_blocks = refl; blocks = refl; objects = refl; slots = refl };
           small = record { names = omega arith; uses = omega (arith, shorter) };
         } in

@@ -1,6 +1,6 @@
 -- An operation that ends with a new entry is a step: what it leaves alone, and how many names it takes.
 use Rattle.std.proofs.Common.{◌≡◌, ℕ, suc, List, [], ◌∷◌, length, false, Option, Some, sym, ap, ◌∙◌, refl, subst, arith}
-use Rattle.std.specs.Prelude.{IsTrue, not, ◌==◌, nat_lt, option_map, unwrap_or}
+use Rattle.std.specs.Prelude.{IsTrue, ◌==◌, nat_lt, option_map, unwrap_or}
 use Rattle.std.specs.List.{list_any}
 use Rattle.s3_base.specs.Numbers.{root}
 use Rattle.s3_base.specs.declared.node_kind.Kind.TheVariants as kinds
@@ -8,20 +8,18 @@ use Rattle.plain_tree.specs.Tree.{Tree}
 use Rattle.plain_tree.specs.Entries.{add_entry}
 use Rattle.plain_tree.specs.WellFormed.{IsWellFormed}
 use Rattle.s3_rows.specs.Rows.{Inode, Parameters}
-use Rattle.s3_rows.specs.Keyed.{has_key}
-use Rattle.s3_rows.specs.Tables.{Tables, by_entry, by_inode}
+use Rattle.s3_rows.specs.Tables.{Tables, by_entry}
 use Rattle.s3_rows.specs.Batches.{tables_after}
 use Rattle.s3_rows.specs.Selections.{inode_at}
 use Rattle.s3_rows.specs.Validity.{HasUniqueNames}
-use Rattle.row_lemmas.proofs.Tests.{find_passes_all}
-use Rattle.row_lemmas.proofs.Keyed.Put.{length-put_new, list_all-put}
+use Rattle.row_lemmas.proofs.Keyed.Put.{length-put_new}
 use Rattle.tree_rows.specs.Shapes.{Represents}
 use Rattle.tree_rows.proofs.Listed.{is_entry}
 use Rattle.tree_rows.proofs.Validity.Tables.{IsValid_from_tree}
 use Rattle.ref_counts.specs.Names.{Raised, raised}
-use Rattle.ref_counts.specs.Plans.{AreNamed, IsSmall, IsStep, LeavesRest, next_inode_of, next_name_of, settings}
+use Rattle.ref_counts.specs.Plans.{IsSmall, IsStep, LeavesRest, next_inode_of, next_name_of, settings}
 use Rattle.row_steps.specs.Owed.{Owes}
-use Rattle.row_steps.specs.RowChanges.{entering, touched_row}
+use Rattle.row_steps.specs.RowChanges.{entering}
 use Rattle.row_steps.proofs.Entering.{HasUniqueNames-entering, Owes-entering, Represents-entering, after, after_is, entry, free_after, named, raise}
 use Rattle.row_steps.proofs.Owed.Contents.{absent_entry}
 use Rattle.row_steps.proofs.Owed.Ends.{HasPremises-Owes}
@@ -31,7 +29,6 @@ pub record IsStart (before t : Tables) : Type 0 where
   pub rest : LeavesRest before t
   pub small : IsSmall 0 before t
   pub unique : HasUniqueNames before → HasUniqueNames t
-  pub named : AreNamed before → AreNamed t
 
 module _ (before t : Tables) (p : Parameters) (d : Inode) (more : Raised) (name : List ℕ) (inode now : ℕ) (o : Owes t p (inode ∷ []) []) (used : raised t name ≡ Some more)
     (there : inode_at t d.id ≡ Some d) (kind : d.kind ≡ kinds.Directory) (free : list_any (is_entry t d.id name) t.contents ≡ false)
@@ -74,11 +71,6 @@ module _ (before t : Tables) (p : Parameters) (d : Inode) (more : Raised) (name 
       (free_after t p d more name inode now [] [] o refl used there kind free not_root number)) in
       record { names = omega (arith, next_name_is, start.small.names, raised_name.most); uses = omega (arith, longer, start.small.uses) }
 
-  named_after : AreNamed before → AreNamed entered
-  named_after all =
-      list_all-put by_inode (λ (r : Inode). not (r.refcount == 0)) (touched_row now d) t.inodes
-      (find_passes_all (has_key by_inode d.id) (λ (r : Inode). not (r.refcount == 0)) t.inodes d (start.named all) there) (start.named all)
-
   pub IsStep-entering : (whole : Tree) → Represents t whole → IsWellFormed (add_entry d.id name inode now whole)
       → IsStep before (tables_after (entering d more inode now) t) (add_entry d.id name inode now whole) 1
   IsStep-entering whole same well =
@@ -93,7 +85,6 @@ module _ (before t : Tables) (p : Parameters) (d : Inode) (more : Raised) (name 
         represents = represents;
         unique =
             λ unique. HasUniqueNames-entering t p d more name inode now [] [] o refl used there kind free not_root number (start.unique unique);
-        named = λ all. subst (λ (u : Tables). AreNamed u) (sym entered_is) (named_after all);
         rest = subst (λ (u : Tables). LeavesRest before u) (sym entered_is) rest_after;
         small = subst (λ (u : Tables). IsSmall 1 before u) (sym entered_is) small_after;
       }

@@ -18,7 +18,7 @@ use Rattle.s3_rows.specs.Selections.{inode_at, name_at, bytes_cmp, bytes_of_name
 use Rattle.s3_rows.specs.Selections as selections
 use Rattle.s3_rows.specs.Validity.{IsValid, HasUniqueNames}
 use Rattle.row_lemmas.proofs.Tests.{equal_from_is_eq, find_passes, find_passes_all, is_eq-nat_cmp, list_any_from_find, pair_parts}
-use Rattle.row_lemmas.proofs.Keyed.Put.{list_all-put, row_at-put_other}
+use Rattle.row_lemmas.proofs.Keyed.Put.{row_at-put_other}
 use Rattle.row_lemmas.proofs.Keyed.Rest.{length-without}
 use Rattle.row_lemmas.proofs.Keyed.RowAt.{row_at_from_find}
 use Rattle.row_lemmas.proofs.Keyed.Without.{list_all-without}
@@ -26,7 +26,7 @@ use Rattle.row_lemmas.proofs.Tables.{tables_after-tables_after}
 use Rattle.tree_rows.specs.Shapes.{Represents}
 use Rattle.tree_rows.proofs.Rooted.{own_entry}
 use Rattle.tree_rows.proofs.Whole.{number_of}
-use Rattle.ref_counts.specs.Plans.{AreNamed, IsStep}
+use Rattle.ref_counts.specs.Plans.{IsStep}
 use Rattle.ref_counts.specs.Removals.{removal}
 use Rattle.row_steps.specs.Owed.{IsBare, Owes, times}
 use Rattle.row_steps.specs.RowChanges.{dropping, touched_row}
@@ -141,12 +141,6 @@ module _ (t : Tables) (whole : Tree) (p : Parameters) (d r : Inode) (c : Content
     attrs = omega arith;
   })
 
-  pub AreNamed-dropped : AreNamed t → AreNamed dropped
-  AreNamed-dropped all =
-      subst AreNamed (sym dropped_is)
-      (list_all-put by_inode (λ (x : Inode). not (x.refcount == 0)) (touched_row now d) t.inodes
-      (find_passes_all (has_key by_inode parent) (λ (x : Inode). not (x.refcount == 0)) t.inodes d all is.found) all)
-
   -- ---- and without the inode
 
   module _ (bare : IsBare t r.id) where
@@ -208,5 +202,4 @@ module _ (t : Tables) (whole : Tree) (p : Parameters) (d r : Inode) (c : Content
         (Represents-removal dropped p r.id (c.inode ∷ []) [] [] Owes-dropped bare_after others (drop_entry parent name now whole) Represents-dropped))
         well
         (λ unique. HasUniqueNames-removal dropped p r.id (c.inode ∷ []) [] [] Owes-dropped bare_after others (HasUniqueNames-dropped unique))
-        IsLess-left
-        (λ all. list_all-without by_inode (λ (x : Inode). not (x.refcount == 0)) r.id dropped.inodes (AreNamed-dropped all)))
+        IsLess-left)

@@ -18,11 +18,10 @@ use Rattle.s3_rows.specs.Selections.{inode_at, target_at}
 use Rattle.s3_rows.specs.Validity.{IsValid, HasUniqueNames, differ}
 use Rattle.row_lemmas.proofs.Tests.{eqb_comm, false_from_not, is_eq-nat_cmp}
 use Rattle.row_lemmas.proofs.Keyed.RowAt.{row_at_own}
-use Rattle.row_lemmas.proofs.Keyed.Without.{list_all-without}
 use Rattle.row_lemmas.proofs.Tables.{tables_after-tables_after}
 use Rattle.tree_laws.proofs.WellFormed.{IsWellFormed-effect}
 use Rattle.tree_rows.specs.Shapes.{NodeShape, TreeShape, node_of_row, shape_of_node, Represents}
-use Rattle.ref_counts.specs.Plans.{AreNamed, IsStep}
+use Rattle.ref_counts.specs.Plans.{IsStep}
 use Rattle.ref_counts.specs.Removals.{attrs_dropped, attrs_of, removal, removals, target_dropped}
 use Rattle.s3_rows.specs.declared.change.Change.TheVariants as changes
 use Rattle.row_steps.specs.Owed.{IsBare, Owes}
@@ -77,7 +76,6 @@ record IsSwept (t u : Tables) (p : Parameters) (dead : ℕ → Bool) : Type 0 wh
   pub attrs : (x : ℕ) → dead x ≡ false → attrs_of u x ≡ attrs_of t x
   pub targets : (x : ℕ) → dead x ≡ false → target_at u x ≡ target_at t x
   pub unique : HasUniqueNames t → HasUniqueNames u
-  pub named : AreNamed t → AreNamed u
 
 both_fail : (a b : Bool) → (a || b) ≡ false → (a ≡ false) × (b ≡ false)
 both_fail true b is = absurd (cc is)
@@ -97,7 +95,6 @@ IsSwept-none t p o = record {
   attrs = λ x other. refl;
   targets = λ x other. refl;
   unique = λ u. u;
-  named = λ all. all;
 }
 
 module _ (t u : Tables) (p : Parameters) (dead : ℕ → Bool) (s : IsSwept t u p dead) (x : ℕ) (alive : dead x ≡ false) (bare : IsBare t x) where
@@ -152,7 +149,6 @@ module _ (t u : Tables) (p : Parameters) (dead : ℕ → Bool) (s : IsSwept t u 
         let parts = other_than y other in
         target_at-removal_other u p x [] [] [] s.owes bare_now (λ z o. refl) y parts.0 ∙ s.targets y parts.1;
     unique = λ unique. HasUniqueNames-removal u p x [] [] [] s.owes bare_now (λ z o. refl) (s.unique unique);
-    named = λ all. list_all-without by_inode (λ (r : Inode). not (r.refcount == 0)) x u.inodes (s.named all);
   })
     where
       both : (a b : Bool) → not (a || b) ≡ (not b && not a)
@@ -208,7 +204,7 @@ pub left_files_step : (t : Tables) (whole : Tree) (p : Parameters) (pass now : �
     → IsStep t (tables_after (removals t inodes t) t) (effect whole pass ops.Leave now) 0
 left_files_step t whole p pass now inodes v unique well same made bare apart dead =
     IsStep-less t (tables_after (removals t inodes t) t) (effect whole pass ops.Leave now) p swept.owes represents (IsWellFormed-effect whole pass now ops.Leave well refl)
-    swept.unique swept.less swept.named
+    swept.unique swept.less
   where
     or_false : (b : Bool) → (b || false) ≡ b
     or_false true = refl

@@ -8,7 +8,7 @@ use Rattle.s3_rows.specs.Tables.{Tables}
 use Rattle.s3_rows.specs.Validity.{HasUniqueNames}
 use Rattle.tree_rows.specs.Shapes.{Represents}
 use Rattle.tree_rows.proofs.Validity.Tables.{IsValid_from_tree}
-use Rattle.ref_counts.specs.Plans.{AreNamed, IsStep, next_inode_of, next_name_of, settings}
+use Rattle.ref_counts.specs.Plans.{IsStep, next_inode_of, next_name_of, settings}
 use Rattle.row_steps.specs.Owed.{Owes}
 use Rattle.row_steps.proofs.Owed.Ends.{HasPremises-Owes}
 
@@ -24,15 +24,14 @@ pub record IsLess (t u : Tables) : Type 0 where
 
 -- a step by which no number is drawn
 pub IsStep-less : (t u : Tables) (next : Tree) (p : Parameters) → Owes u p [] [] → Represents u next → IsWellFormed next
-    → (HasUniqueNames t → HasUniqueNames u) → IsLess t u → (AreNamed t → AreNamed u) → IsStep t u next 0
-IsStep-less t u next p o same well unique less named =
+    → (HasUniqueNames t → HasUniqueNames u) → IsLess t u → IsStep t u next 0
+IsStep-less t u next p o same well unique less =
     let inode : next_inode_of u ≡ next_inode_of t = ap (λ (found : Option Parameters). unwrap_or (option_map (λ q. q.next_inode) found) 0) less.params in
     let id : next_name_of u ≡ next_name_of t = ap (λ (found : Option Parameters). unwrap_or (option_map (λ q. q.next_name) found) 0) less.params in
     record {
       valid = IsValid_from_tree u next (HasPremises-Owes u p o) same well;
       represents = same;
       unique = unique;
-      named = named;
       rest = record {
         params = ap (option_map settings) less.params;
         next_inode = omega (arith, inode);

@@ -1,9 +1,8 @@
 -- An entry more of a file that is there, which counts it.
 use Rattle.std.proofs.Common.{◌≡◌, ◌≢◌, ℕ, ◌+◌, List, [], ◌∷◌, true, false, Option, None, Some, refl, sym, ap, ◌∙◌, subst, arith, eq-eqb}
-use Rattle.std.specs.Prelude.{IsTrue, not, ◌==◌, nat_lt}
+use Rattle.std.specs.Prelude.{IsTrue, ◌==◌, nat_lt}
 use Rattle.std.specs.List.{list_any}
 use Rattle.std.specs.Cmp.{nat_cmp_total}
-use Rattle.std.proofs.lemmas.Bool.{ne_eqb}
 use Rattle.s3_base.specs.Numbers.{root}
 use Rattle.s3_base.specs.declared.node_kind.Kind.TheVariants as kinds
 use Rattle.op_frames.specs.declared.operation.Op.TheVariants as ops
@@ -19,7 +18,7 @@ use Rattle.s3_rows.specs.Batches.{tables_after}
 use Rattle.s3_rows.specs.Selections.{inode_at}
 use Rattle.s3_rows.specs.Validity.{IsValid, HasUniqueNames, has_inode, is_directory}
 use Rattle.row_lemmas.proofs.Tests.{eqb_comm, find_passes_all, is_eq-nat_cmp}
-use Rattle.row_lemmas.proofs.Keyed.Put.{list_all-put, row_at-put_other, row_at-put_same}
+use Rattle.row_lemmas.proofs.Keyed.Put.{row_at-put_other, row_at-put_same}
 use Rattle.tree_laws.proofs.Node.Swap.{change_node_comm}
 use Rattle.tree_laws.proofs.Walk.Passed.{can_link}
 use Rattle.tree_laws.proofs.WellFormed.{IsWellFormed-effect}
@@ -60,11 +59,7 @@ module _ (t : Tables) (p : Parameters) (d r : Inode) (more : Raised) (name : Lis
     rest = record { params = refl; next_inode = omega arith; next_name = omega arith; inode_blocks = refl; blocks = refl; objects = refl; slots = refl };
     small = record { names = omega arith; uses = omega arith };
     unique = λ unique. unique;
-    named = λ all. list_all-put by_inode (λ (x : Inode). not (x.refcount == 0)) row t.inodes (some_links r.refcount) all;
   }
-    where
-      some_links : (n : ℕ) → IsTrue (not (n + 1 == 0))
-      some_links n = ap not (ne_eqb (n + 1) 0 (λ same. omega (arith, same)))
 
   owes_link : Owes counted p (r.id ∷ []) []
   owes_link = Owes-put_inode_more t p r row [] [] owes file refl refl refl

@@ -1,6 +1,6 @@
 -- A new inode and its entry in a directory, whatever its kind.
 use Rattle.std.proofs.Common.{◌≡◌, ℕ, ◌+◌, List, [], ◌∷◌, false, Option, None, Some, refl, sym, ap, ◌∙◌, subst, arith}
-use Rattle.std.specs.Prelude.{IsTrue, not, ◌==◌, nat_lt, option_map, unwrap_or}
+use Rattle.std.specs.Prelude.{IsTrue, ◌==◌, nat_lt, option_map, unwrap_or}
 use Rattle.std.specs.List.{list_any}
 use Rattle.std.specs.Cmp.{nat_cmp_total}
 use Rattle.s3_base.specs.declared.node_kind.Kind.TheVariants as kinds
@@ -16,7 +16,7 @@ use Rattle.s3_rows.specs.Batches.{tables_after}
 use Rattle.s3_rows.specs.Selections.{inode_at}
 use Rattle.s3_rows.specs.Validity.{IsValid, has_inode, is_directory}
 use Rattle.row_lemmas.proofs.Tests.{find_passes_all, is_eq-nat_cmp}
-use Rattle.row_lemmas.proofs.Keyed.Put.{list_all-put, row_at-put_other, row_at-put_same}
+use Rattle.row_lemmas.proofs.Keyed.Put.{row_at-put_other, row_at-put_same}
 use Rattle.row_lemmas.proofs.Tables.{tables_after-tables_after}
 use Rattle.tree_rows.specs.Shapes.{TreeShape, Represents}
 use Rattle.tree_rows.proofs.Listed.{is_entry}
@@ -76,7 +76,6 @@ module _ (t : Tables) (whole : Tree) (p : Parameters) (d new : Inode) (node : No
           uses = omega arith;
         };
         unique = λ unique. unique;
-        named = λ all. list_all-put by_inode (λ (r : Inode). not (r.refcount == 0)) new t.inodes (ap (λ n. not (n == 0)) is.once) all;
       }
 
   -- the new inode may be put before its name and its entry, and its targets with it

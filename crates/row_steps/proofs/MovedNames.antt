@@ -1,7 +1,6 @@
 -- An entry that moves, by what its name is: its own in another directory, or another one.
-use Rattle.std.proofs.Common.{◌≡◌, ◌≤◌, ℕ, List, [], ◌∷◌, ◌++◌, length, Bool, true, false, Option, None, Some, refl, sym, ap, ◌∙◌, subst, arith}
-use Rattle.std.specs.Prelude.{IsTrue, not, ◌==◌, is_some, option_map, unwrap_or}
-use Rattle.std.specs.List.{list_all}
+use Rattle.std.proofs.Common.{◌≡◌, ◌≤◌, ℕ, List, [], ◌∷◌, ◌++◌, length, true, false, Option, None, Some, refl, sym, ap, ◌∙◌, subst, arith}
+use Rattle.std.specs.Prelude.{◌==◌, is_some, option_map, unwrap_or}
 use Rattle.std.specs.Cmp.{nat_cmp_total}
 use Rattle.s3_base.specs.Numbers.{root}
 use Rattle.plain_tree.specs.Tree.{Tree}
@@ -10,25 +9,24 @@ use Rattle.plain_tree.specs.WellFormed.{IsWellFormed}
 use Rattle.s3_rows.specs.declared.change.Change.{Change}
 use Rattle.s3_rows.specs.declared.change.Change.TheVariants as changes
 use Rattle.s3_rows.specs.Rows.{Inode, Name, Content, Parameters}
-use Rattle.s3_rows.specs.Keyed.{has_key, put, without}
+use Rattle.s3_rows.specs.Keyed.{put, without}
 use Rattle.s3_rows.specs.Tables.{Tables, by_entry, by_inode, by_name}
 use Rattle.s3_rows.specs.Batches.{tables_after}
 use Rattle.s3_rows.specs.Selections.{inode_at, name_at, bytes_of_name}
 use Rattle.s3_rows.specs.Selections as selections
-use Rattle.row_lemmas.proofs.Tests.{find_passes_all}
 use Rattle.row_lemmas.proofs.Keyed.Length.{length-put, length-without_there}
-use Rattle.row_lemmas.proofs.Keyed.Put.{list_all-put, row_at-put_same}
+use Rattle.row_lemmas.proofs.Keyed.Put.{row_at-put_same}
 use Rattle.row_lemmas.proofs.Tables.{tables_after-tables_after}
 use Rattle.tree_rows.specs.Shapes.{Represents}
 use Rattle.tree_rows.proofs.Validity.Tables.{IsValid_from_tree}
 use Rattle.ref_counts.specs.Names.{Raised, lowered, raised}
-use Rattle.ref_counts.specs.Plans.{AreNamed, IsStep, next_inode_of, next_name_of, settings}
+use Rattle.ref_counts.specs.Plans.{IsStep, next_inode_of, next_name_of, settings}
 use Rattle.row_steps.specs.Owed.{Owes}
 use Rattle.row_steps.specs.RowChanges.{dropping, moving, other_name, same_name, stamped_row, touched_row}
 use Rattle.row_steps.proofs.Dropping.{Represents-touched, id_is, lower, owes_both}
 use Rattle.row_steps.proofs.Leaving.{entry_there, in_directory, name_is, named, not_root, owes, there}
 use Rattle.row_steps.proofs.Less.{IsStep-less}
-use Rattle.row_steps.proofs.Moving.{IsMoving, at_parent, child, child_row, final, left, lifted, moved, moved_to_new, new_there, touched_rows}
+use Rattle.row_steps.proofs.Moving.{IsMoving, at_parent, child, final, left, lifted, moved, moved_to_new, touched_rows}
 use Rattle.row_steps.proofs.Owed.Ends.{HasPremises-Owes}
 use Rattle.row_steps.proofs.Owed.Lowered.{IsLower}
 use Rattle.row_steps.proofs.Owed.Names.{KeepsBytes-put, any_name}
@@ -87,15 +85,6 @@ module _ (t : Tables) (whole : Tree) (p : Parameters) (d d2 r : Inode) (c : Cont
         length-without_there by_entry (c.parent, c.name_id) t.contents c row_there,
       )
 
-  pub named_after : AreNamed t → IsTrue (list_all (λ (x : Inode). not (x.refcount == 0)) rows)
-  named_after all =
-      let counts : Inode → Bool = λ x. not (x.refcount == 0) in
-      list_all-put by_inode counts (stamped_row now r) (put by_inode (touched_row now d2) (put by_inode (touched_row now d) t.inodes))
-      (find_passes_all (has_key by_inode r.id) counts t.inodes r all (child_row t whole p d d2 r c n now parent name new_parent new_name is))
-      (list_all-put by_inode counts (touched_row now d2) (put by_inode (touched_row now d) t.inodes)
-      (find_passes_all (has_key by_inode d2.id) counts t.inodes d2 all (new_there t whole p d d2 r c n now parent name new_parent new_name is))
-      (list_all-put by_inode counts (touched_row now d) t.inodes (find_passes_all (has_key by_inode d.id) counts t.inodes d all d_there) all))
-
   -- ---- the same name in another directory
 
   pub IsStep-same_name : new_name ≡ name → entry_at whole new_parent new_name ≡ None → IsWellFormed (final t whole p d d2 r c n now parent name new_parent new_name is)
@@ -117,7 +106,6 @@ module _ (t : Tables) (whole : Tree) (p : Parameters) (d d2 r : Inode) (c : Cont
         contents = fewer c.name_id;
         attrs = omega arith;
       })
-      named_after
 
   -- ---- another name
 
@@ -190,7 +178,6 @@ module _ (t : Tables) (whole : Tree) (p : Parameters) (d d2 r : Inode) (c : Cont
           valid = IsValid_from_tree after next (HasPremises-Owes after (record p { next_name = raise.next }) both.0) both.1 well;
           represents = both.1;
           unique = λ unique. raise.unique (less.unique unique);
-          named = named_after;
           rest = record {
             params = sym (ap (option_map settings) is.leaving.params);
             next_inode = omega (arith, inode);

@@ -31,7 +31,7 @@ use Rattle.tree_rows.specs.Premises.{finds_directory_and_name}
 use Rattle.tree_rows.specs.Shapes.{Represents}
 use Rattle.tree_rows.proofs.Replaced.{replaced_represents}
 use Rattle.tree_rows.proofs.Whole.{folder_is, number_of}
-use Rattle.ref_counts.specs.Plans.{AreNamed, IsStep}
+use Rattle.ref_counts.specs.Plans.{IsStep}
 use Rattle.row_steps.specs.Owed.{IsBare, Owes, owes_links, times}
 use Rattle.row_steps.specs.RowChanges.{counted_row, dropping, settling, unlinking, touched_row}
 use Rattle.row_steps.proofs.Leaving.{IsLeaving, IsLess-dropped, IsStep-left, HasUniqueNames-dropped, Owes-dropped, Represents-dropped, child_number, child_there, dropped, dropped_is, entry_is, not_root, row_there, there}
@@ -53,6 +53,15 @@ no_entries t r there other o =
     list_all_weaker (finds_directory_and_name t) (λ (x : Content). not (x.parent == r.id))
     (λ x finds. apart_by_kind t r there is_directory other x.parent (and_parts (has_inode is_directory t x.parent) (is_some (name_at t x.name_id)) finds).0)
     t.contents o.rows.entries
+
+-- nothing is of what is no directory, where no file has blocks or slots
+pub IsBare-empty : (t : Tables) (p : Parameters) (r : Inode) → Owes t p [] [] → inode_at t r.id ≡ Some r → is_directory r.kind ≡ false → t.inode_blocks ≡ []
+    → t.slots ≡ [] → IsBare t r.id
+IsBare-empty t p r o there other blocks slots = record {
+  entries = no_entries t r there other o;
+  inode_blocks = subst (λ (rows : List InodeBlock). IsTrue (list_all (λ (x : InodeBlock). not (x.inode == r.id)) rows)) (sym blocks) refl;
+  slots = subst (λ (rows : List Slot). IsTrue (list_all (λ (x : Slot). not (x.inode == r.id)) rows)) (sym slots) refl;
+}
 
 -- ---- a row with one link less
 
@@ -121,9 +130,8 @@ module _ (t : Tables) (whole : Tree) (p : Parameters) (d r : Inode) (c : Content
   unlink_is pass = ap (λ (e : Option ℕ). subtrees.dropped now e unlinked) (entry_is t whole p d r c n now parent name is)
 
   pub unlink_step : (pass : ℕ) (kept : Bool) → lives stamped_tree c.inode ≡ kept → HasUniqueNames t → IsWellFormed (effect whole pass (ops.Unlink parent name) now)
-      → (AreNamed t → AreNamed (tables_after (unlinking kept t d r c n now) t))
       → IsStep t (tables_after (unlinking kept t d r c n now) t) (effect whole pass (ops.Unlink parent name) now) 0
-  unlink_step pass true lives_on unique well named =
+  unlink_step pass true lives_on unique well =
       let after : Tree = effect whole pass (ops.Unlink parent name) now in
       let tables : tables_after (unlinking true t d r c n now) t ≡ counted = sym (tables_after-tables_after (dropping d c n now) (changes.PutInode row ∷ []) t) in
       let tree_is : after ≡ stamped_tree = unlink_is pass ∙ ap (λ b. cond b stamped_tree (without_node c.inode stamped_tree)) lives_on in
@@ -139,9 +147,8 @@ module _ (t : Tables) (whole : Tree) (p : Parameters) (d r : Inode) (c : Content
         slots = before.slots;
         contents = before.contents;
         attrs = before.attrs;
-      })
-      (λ all. subst AreNamed tables (named all)))
-  unlink_step pass false goes unique well named =
+      }))
+  unlink_step pass false goes unique well =
       let tree_is : effect whole pass (ops.Unlink parent name) now ≡ without_node c.inode unlinked =
       unlink_is pass ∙ ap (λ b. cond b stamped_tree (without_node c.inode stamped_tree)) goes ∙ without_node-change_node (stamped now) c.inode unlinked in
       subst (λ w. IsStep t (tables_after (unlinking false t d r c n now) t) w 0) (sym tree_is)
@@ -152,11 +159,10 @@ pub old_link_step : (t : Tables) (whole : Tree) (p : Parameters) (directory r : 
     → name_of_bytes t name ≡ Some n → entry_at t parent n.id ≡ Some c → inode_at t c.inode ≡ Some r
     → IsTrue (list_all (λ (x : InodeBlock). not (x.inode == r.id)) t.inode_blocks) → IsTrue (list_all (λ (x : Slot). not (x.inode == r.id)) t.slots)
     → is_open whole c.inode ≡ held → first_failure (checks whole pass (ops.Unlink parent name)) ≡ None
-    → (AreNamed t → AreNamed (tables_after (unlinking (nat_lt 1 r.refcount || held) t directory r c n now) t))
     → IsStep t (tables_after (unlinking (nat_lt 1 r.refcount || held) t directory r c n now) t) (effect whole pass (ops.Unlink parent name) now) 0
-old_link_step t whole p directory r c n pass parent now name held v unique well same made found bytes entry row_is blocks slots held_is passes named =
+old_link_step t whole p directory r c n pass parent now name held v unique well same made found bytes entry row_is blocks slots held_is passes =
     unlink_step t whole p directory r c n now parent name is bare pass (nat_lt 1 r.refcount || held)
-    (lives_is t whole p directory r c n now parent name is bare held held_is) unique (IsWellFormed-effect whole pass now (ops.Unlink parent name) well passes) named
+    (lives_is t whole p directory r c n now parent name is bare held held_is) unique (IsWellFormed-effect whole pass now (ops.Unlink parent name) well passes)
   where
     can : CanUnlink whole parent name
     can = can_unlink whole pass parent name passes
@@ -227,7 +233,7 @@ old_file_step t whole p r handle pass number now held v unique well same made ha
     by_case true stays =
         let tree_is : effect whole pass (ops.Release number) now ≡ without_handle number whole =
         settles ∙ ap (λ b. cond b (without_handle number whole) (without_node handle.inode (without_handle number whole))) stays in
-        IsStep-less t t (effect whole pass (ops.Release number) now) p owes (subst (λ w. Represents t w) (sym tree_is) same) well_after (λ u. u) (IsLess-refl t) (λ all. all)
+        IsStep-less t t (effect whole pass (ops.Release number) now) p owes (subst (λ w. Represents t w) (sym tree_is) same) well_after (λ u. u) (IsLess-refl t)
     by_case false goes =
         let rest : Tables = gone t p r.id [] [] [] owes bare (λ x other. refl) in
         let tree_is : effect whole pass (ops.Release number) now ≡ without_node r.id (without_handle number whole) =
@@ -246,5 +252,4 @@ old_file_step t whole p r handle pass number now held v unique well same made ha
           slots = refl;
           contents = omega arith;
           attrs = attrs-removal t p r.id [] [] [] owes bare (λ x other. refl);
-        })
-        (λ all. list_all-without by_inode (λ (x : Inode). not (x.refcount == 0)) r.id t.inodes all))
+        }))

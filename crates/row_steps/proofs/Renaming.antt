@@ -19,7 +19,7 @@ use Rattle.tree_laws.proofs.Walk.Passed.{CanRename, can_move, can_rename}
 use Rattle.tree_laws.proofs.WellFormed.{IsWellFormed-effect}
 use Rattle.tree_rows.specs.Shapes.{Represents}
 use Rattle.ref_counts.specs.Names.{Raised, raised}
-use Rattle.ref_counts.specs.Plans.{AreNamed, IsStep}
+use Rattle.ref_counts.specs.Plans.{IsStep}
 use Rattle.row_steps.specs.RowChanges.{dropping, moving, other_name, replacing, same_name}
 use Rattle.row_steps.proofs.Leaving.{IsLeaving, entry_is}
 use Rattle.row_steps.proofs.MovedNames.{IsStep-other_name, IsStep-same_name}
@@ -37,7 +37,6 @@ itself_step t whole pass parent new_parent now name new_name v same one =
       valid = v;
       represents = same;
       unique = λ unique. unique;
-      named = λ all. all;
       rest = record {
         params = refl;
         next_inode = omega arith;
@@ -131,13 +130,12 @@ module _ (t : Tables) (whole : Tree) (p : Parameters) (d d2 r : Inode) (c : Cont
 
     pub replaced_moved : (held : Bool) → IsTrue (list_all (λ (x : InodeBlock). not (x.inode == r2.id)) t.inode_blocks)
         → IsTrue (list_all (λ (x : Slot). not (x.inode == r2.id)) t.slots) → is_open whole c2.inode ≡ held
-        → (AreNamed t → AreNamed (tables_after (replacing (nat_lt 1 r2.refcount || held) t d d2 r r2 c c2 n now) t))
         → IsStep t (tables_after (replacing (nat_lt 1 r2.refcount || held) t d d2 r r2 c c2 n now) t) (effect whole pass (ops.Rename parent name new_parent new_name) now) 0
-    replaced_moved held blocks slots held_is named =
+    replaced_moved held blocks slots held_is =
         subst (λ (next : Tree). IsStep t (tables_after (replacing (nat_lt 1 r2.refcount || held) t d d2 r r2 c c2 n now) t) next 0) (sym over_is)
         (IsStep-replacing t whole p d d2 r r2 c c2 n n2 now parent name new_parent new_name (is_moving differ) replaced blocks slots (nat_lt 1 r2.refcount || held)
         (lives_is t whole p d d2 r r2 c c2 n n2 now parent name new_parent new_name (is_moving differ) replaced held held_is)
-        (subst IsWellFormed over_is (IsWellFormed-effect whole pass now (ops.Rename parent name new_parent new_name) well passes)) named)
+        (subst IsWellFormed over_is (IsWellFormed-effect whole pass now (ops.Rename parent name new_parent new_name) well passes)))
 
 pub same_name_step : (t : Tables) (whole : Tree) (p : Parameters) (d d2 r : Inode) (c : Content) (n : Name) (pass parent new_parent now : ℕ) (name : List ℕ)
     → IsValid t → IsWellFormed whole → Represents t whole → t.params ≡ Some p → inode_at t parent ≡ Some d → inode_at t new_parent ≡ Some d2
@@ -164,8 +162,7 @@ pub replaced_step : (t : Tables) (whole : Tree) (p : Parameters) (d d2 r r2 : In
     → name_of_bytes t new_name ≡ Some n2 → selections.entry_at t new_parent n2.id ≡ Some c2 → inode_at t c2.inode ≡ Some r2
     → IsTrue (list_all (λ (x : InodeBlock). not (x.inode == r2.id)) t.inode_blocks) → IsTrue (list_all (λ (x : Slot). not (x.inode == r2.id)) t.slots)
     → is_open whole c2.inode ≡ held → first_failure (checks whole pass (ops.Rename parent name new_parent new_name)) ≡ None → (c2.inode == c.inode) ≡ false
-    → (AreNamed t → AreNamed (tables_after (replacing (nat_lt 1 r2.refcount || held) t d d2 r r2 c c2 n now) t))
     → IsStep t (tables_after (replacing (nat_lt 1 r2.refcount || held) t d d2 r r2 c c2 n now) t) (effect whole pass (ops.Rename parent name new_parent new_name) now) 0
-replaced_step t whole p d d2 r r2 c c2 n n2 pass parent new_parent now name new_name held v well same made found new_found bytes entry row new_bytes new_entry new_row blocks slots held_is passes other named =
+replaced_step t whole p d d2 r r2 c c2 n n2 pass parent new_parent now name new_name held v well same made found new_found bytes entry row new_bytes new_entry new_row blocks slots held_is passes other =
     replaced_moved t whole p d d2 r c n pass parent new_parent now name new_name v well same made found new_found bytes entry row passes
-    r2 c2 n2 new_bytes new_entry new_row other held blocks slots held_is named
+    r2 c2 n2 new_bytes new_entry new_row other held blocks slots held_is

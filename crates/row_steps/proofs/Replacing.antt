@@ -29,7 +29,7 @@ use Rattle.tree_laws.proofs.Rename.Shape.{replaces_empty}
 use Rattle.tree_rows.specs.Shapes.{Represents}
 use Rattle.tree_rows.proofs.Replaced.{replaced_represents}
 use Rattle.ref_counts.specs.Names.{lowered}
-use Rattle.ref_counts.specs.Plans.{AreNamed, IsStep}
+use Rattle.ref_counts.specs.Plans.{IsStep}
 use Rattle.ref_counts.specs.Removals.{removal}
 use Rattle.row_steps.specs.Owed.{IsBare, Owes, owes_links, times}
 use Rattle.row_steps.specs.RowChanges.{counted_row, moving, name_of_replaced, replacing, stamped_row, touched_row}
@@ -260,9 +260,8 @@ module _ (t : Tables) (whole : Tree) (p : Parameters) (d d2 r r2 : Inode) (c c2 
         ∙ tables_after-removal replaced p r2.id (c2.inode ∷ []) [] [] both.0 bare others
 
     pub IsStep-replacing : (kept : Bool) → lives stamped_tree c2.inode ≡ kept → IsWellFormed (dropped now (Some c2.inode) next)
-        → (AreNamed t → AreNamed (tables_after (replacing kept t d d2 r r2 c c2 n now) t))
         → IsStep t (tables_after (replacing kept t d d2 r r2 c c2 n now) t) (dropped now (Some c2.inode) next) 0
-    IsStep-replacing true lives_on well named =
+    IsStep-replacing true lives_on well =
         let tree_is : dropped now (Some c2.inode) next ≡ stamped_tree = ap (λ b. cond b stamped_tree (without_node c2.inode stamped_tree)) lives_on in
         let tables : tables_after (batch ++ changes.PutInode low ∷ []) t ≡ counted =
         sym (tables_after-tables_after batch (changes.PutInode low ∷ []) t) ∙ ap (tables_after (changes.PutInode low ∷ [])) batch_is in
@@ -277,9 +276,8 @@ module _ (t : Tables) (whole : Tree) (p : Parameters) (d d2 r r2 : Inode) (c c2 
           slots = refl;
           contents = fewer t whole p d d2 r c n now parent name new_parent new_name is c2.name_id;
           attrs = omega arith;
-        })
-        (λ all. subst AreNamed tables (named all)))
-    IsStep-replacing false goes well named =
+        }))
+    IsStep-replacing false goes well =
         let tree_is : dropped now (Some c2.inode) next ≡ without_node c2.inode next =
         ap (λ b. cond b stamped_tree (without_node c2.inode stamped_tree)) goes ∙ without_node-change_node (stamped now) c2.inode next in
         subst (λ (u : Tables). IsStep t u (dropped now (Some c2.inode) next) 0) (sym left_over_is)
@@ -298,5 +296,4 @@ module _ (t : Tables) (whole : Tree) (p : Parameters) (d d2 r r2 : Inode) (c c2 
           slots = refl;
           contents = fewer t whole p d d2 r c n now parent name new_parent new_name is c2.name_id;
           attrs = attrs-removal replaced p r2.id (c2.inode ∷ []) [] [] both.0 bare others;
-        })
-        (λ all. subst AreNamed left_over_is (named all)))
+        }))

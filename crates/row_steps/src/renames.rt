@@ -15,7 +15,7 @@ ghost use Rattle.s3_rows.specs.Selections.{inode_at, entry_at, name_of_bytes};
 ghost use Rattle.s3_rows.specs.Validity.{IsValid, HasUniqueNames};
 ghost use Rattle.tree_rows.specs.Shapes.{Represents};
 ghost use Rattle.ref_counts.specs.Names.{Raised, raised};
-ghost use Rattle.ref_counts.specs.Plans.{AreNamed, IsStep};
+ghost use Rattle.ref_counts.specs.Plans.{IsStep};
 ghost use Rattle.row_steps.specs.RowChanges.{dropping, moving, other_name, replacing, same_name};
 
 /// Where no check of a Rename fails, its batch leaves valid tables that represent the tree with the entry moved: none where both
@@ -47,7 +47,6 @@ pub fn renames_are_steps()
         → inode_at t c.inode ≡ Some r → name_of_bytes t new_name ≡ Some old_name → entry_at t new_parent old_name.id ≡ Some old → inode_at t old.inode ≡ Some replaced
         → IsTrue (list_all (λ (x : InodeBlock). not (x.inode == replaced.id)) t.inode_blocks) → IsTrue (list_all (λ (x : Slot). not (x.inode == replaced.id)) t.slots)
         → is_open whole old.inode ≡ held → first_failure (checks whole pass (ops.Rename parent name new_parent new_name)) ≡ None → (old.inode == c.inode) ≡ false
-        → (AreNamed t → AreNamed (tables_after (replacing (nat_lt 1 replaced.refcount || held) t directory new_directory r replaced c old n now) t))
         → IsStep t (tables_after (replacing (nat_lt 1 replaced.refcount || held) t directory new_directory r replaced c old n now) t)
         (effect whole pass (ops.Rename parent name new_parent new_name) now) 0 }
 {}

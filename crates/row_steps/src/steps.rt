@@ -19,7 +19,7 @@ ghost use Rattle.s3_rows.specs.Validity.{IsValid, HasUniqueNames, differ};
 ghost use Rattle.tree_rows.specs.NamedAttrs.{attr_of_name};
 ghost use Rattle.tree_rows.specs.Shapes.{Represents};
 ghost use Rattle.ref_counts.specs.Names.{Raised, raised};
-ghost use Rattle.ref_counts.specs.Plans.{AreNamed, IsStep};
+ghost use Rattle.ref_counts.specs.Plans.{IsStep};
 ghost use Rattle.ref_counts.specs.Removals.{removal, removals};
 ghost use Rattle.row_steps.specs.Owed.{IsBare, Owes};
 ghost use Rattle.row_steps.specs.RowChanges.{adding_attr, creation, dropping, link_creation, linking, new_directory_row, new_file_row, removing_attr, setting_attr, settling, unlinking, with_drawn, counted_row};
@@ -86,15 +86,13 @@ pub fn old_directories_are_steps()
 {}
 
 /// Where no check of an Unlink fails, its batch leaves valid tables that represent the tree without the entry: the file counts one
-/// link less where another entry or a handle keeps it, and goes where none does. No block or slot is of it. Every inode keeps a
-/// name where the batch leaves it so.
+/// link less where another entry or a handle keeps it, and goes where none does. No block or slot is of it.
 pub fn old_links_are_steps()
     ensures { (t : Tables) (whole : Tree) (p : Parameters) (directory r : Inode) (c : Content) (n : Name) (pass parent now : ℕ) (name : List ℕ) (held : Bool)
         → IsValid t → HasUniqueNames t → IsWellFormed whole → Represents t whole → t.params ≡ Some p → inode_at t parent ≡ Some directory
         → name_of_bytes t name ≡ Some n → entry_at t parent n.id ≡ Some c → inode_at t c.inode ≡ Some r
         → IsTrue (list_all (λ x. not (x.inode == r.id)) t.inode_blocks) → IsTrue (list_all (λ x. not (x.inode == r.id)) t.slots)
         → is_open whole c.inode ≡ held → first_failure (checks whole pass (ops.Unlink parent name)) ≡ None
-        → (AreNamed t → AreNamed (tables_after (unlinking (nat_lt 1 r.refcount || held) t directory r c n now) t))
         → IsStep t (tables_after (unlinking (nat_lt 1 r.refcount || held) t directory r c n now) t) (effect whole pass (ops.Unlink parent name) now) 0 }
 {}
 

@@ -1,10 +1,10 @@
 -- Plans that are carried out.
-use Rattle.std.proofs.Common.{◌≡◌, ℕ, ◌^◌, Bool, true, false, Option, None, Some, Result, Ok, Err, sym, ap, ◌∙◌, subst, inl, ⊎_elim}
+use Rattle.std.proofs.Common.{◌≡◌, ℕ, ◌^◌, [], Bool, true, false, Option, None, Some, Result, Ok, Err, sym, ap, ◌∙◌, subst, inl, ⊎_elim}
 use Rattle.std.specs.Prelude.{IsTrue, nat_le, is_err, OnOk, OnErr, ◌&&◌, ◌||◌}
 use Rattle.op_frames.specs.declared.operation.Op.{Op}
 use Rattle.op_frames.specs.declared.reply.Reply.{Reply}
 use Rattle.core_rules.specs.Built.{is_built}
-use Rattle.plain_tree.specs.Classes.{class_of, is_of_inodes, is_of_entries, is_closing, keeps_rows, names_drawn}
+use Rattle.plain_tree.specs.Classes.{class_of, is_of_inodes, is_of_entries, keeps_rows, names_drawn}
 use Rattle.plain_tree.specs.Tree.{Tree}
 use Rattle.plain_tree.specs.Checks.{fails_with, first_failure, hand_check}
 use Rattle.plain_tree.specs.Operations.{checks, effect}
@@ -16,7 +16,7 @@ use Rattle.tree_laws.proofs.WellFormed.{IsWellFormed-effect}
 use Rattle.inode_ops.specs.Plans as inode_plans
 use Rattle.dir_ops.specs.Plans as dir_plans
 use Rattle.ref_counts.specs.Handles.{OpenHandles, HasHandles}
-use Rattle.ref_counts.specs.Plans.{AreNamed, IsPlanOf, IsWorn}
+use Rattle.ref_counts.specs.Plans.{IsPlanOf, IsWorn}
 use Rattle.ref_counts.specs.declared.plan.Plan.{Plan}
 use Rattle.ref_counts.specs.declared.plan.Plan.TheVariants as plans
 use Rattle.volume_core.specs.declared.refusal.Refusal.{Refusal}
@@ -67,7 +67,7 @@ module _ {K : Type 0} (told : K → Option Told) (before after : RowCore K) (who
   taken (plans.Commit batch reply drop) (Err refusal) planned is still goes = fault_outcome refusal is.0 (is_still told before after whole s is.1 still.0 still.1)
 
   -- a plan that is fulfilled
-  module _ (carried : IsTrue (is_by_plan op)) (effects : first_failure (checks whole pass op) ≡ None → Fulfils s.now.tables whole s.served.valid s.represents s.served.named before.handles s.handles pass now op) (files : after.files ≡ before.files) where
+  module _ (carried : IsTrue (is_by_plan op)) (effects : first_failure (checks whole pass op) ≡ None → Fulfils whole before.handles s.handles pass now op) (files : after.files ≡ before.files) where
     not_full : (plan : Plan) → IsPlanOf s.now.tables whole pass op now plan → IsFull plan before.handles → ⊥
     not_full (plans.Refuse errno) planned full = cc full.1
     not_full plans.Worn planned full = cc full.1
@@ -125,20 +125,21 @@ module _ {K : Type 0} (told : K → Option Told) (before after : RowCore K) (who
   by_plan : IsTrue (is_by_plan op) → IsPlanOf s.now.tables whole pass op now plan → IsOutcome told before after whole pass op now result
   by_plan planned own =
       fulfilled told before after whole s pass op now planned
-      (fulfils s.now.tables whole s.served.valid s.represents s.served.named before.handles s.handles pass now op planned) files plan result own
+      (fulfils whole before.handles s.handles pass now op planned) files plan result own
       (subst (λ t. IsFulfilled plan pass op t (told after.keeper) before.handles after.handles result) same is)
 
   pub inodes_so : IsTrue (inode_plans.is_planned op)
-      → IfTold (told before.keeper) (λ t. IsValid t → HasUniqueNames t → (IsTrue (is_closing (class_of op)) → AreNamed t) → (w : Tree) → Represents t w → IsWellFormed w → HasHandles before.handles w → IsPlanOf t w pass op now plan)
+      → IfTold (told before.keeper) (λ t. IsValid t → HasUniqueNames t → t.inode_blocks ≡ [] → t.slots ≡ [] → (w : Tree) → Represents t w → IsWellFormed w → HasHandles before.handles w → IsPlanOf t w pass op now plan)
       → IsOutcome told before after whole pass op now result
   inodes_so planned own =
       by_plan (either_plan (is_of_inodes (class_of op)) (is_of_entries (class_of op)) (is_built op) planned)
-      (told_fact (told before.keeper) s.now (λ t. IsValid t → HasUniqueNames t → (IsTrue (is_closing (class_of op)) → AreNamed t) → (w : Tree) → Represents t w → IsWellFormed w → HasHandles before.handles w → IsPlanOf t w pass op now plan) s.tells own
-      s.served.valid s.served.unique (λ closes. s.served.named) whole s.represents s.well s.handles)
+      (told_fact (told before.keeper) s.now (λ t. IsValid t → HasUniqueNames t → t.inode_blocks ≡ [] → t.slots ≡ [] → (w : Tree) → Represents t w → IsWellFormed w → HasHandles before.handles w → IsPlanOf t w pass op now plan) s.tells own
+      s.served.valid s.served.unique s.served.inode_blocks s.served.slots whole s.represents s.well s.handles)
 
   pub entries_so : IsTrue (dir_plans.is_planned op)
-      → IfTold (told before.keeper) (λ t. IsValid t → HasUniqueNames t → (w : Tree) → Represents t w → IsWellFormed w → HasHandles before.handles w → IsPlanOf t w pass op now plan) → IsOutcome told before after whole pass op now result
+      → IfTold (told before.keeper) (λ t. IsValid t → HasUniqueNames t → t.inode_blocks ≡ [] → t.slots ≡ [] → (w : Tree) → Represents t w → IsWellFormed w → HasHandles before.handles w → IsPlanOf t w pass op now plan)
+      → IsOutcome told before after whole pass op now result
   entries_so planned own =
       by_plan (or_plan (is_of_inodes (class_of op)) (is_of_entries (class_of op)) (is_built op) planned)
-      (told_fact (told before.keeper) s.now (λ t. IsValid t → HasUniqueNames t → (w : Tree) → Represents t w → IsWellFormed w → HasHandles before.handles w → IsPlanOf t w pass op now plan) s.tells own
-      s.served.valid s.served.unique whole s.represents s.well s.handles)
+      (told_fact (told before.keeper) s.now (λ t. IsValid t → HasUniqueNames t → t.inode_blocks ≡ [] → t.slots ≡ [] → (w : Tree) → Represents t w → IsWellFormed w → HasHandles before.handles w → IsPlanOf t w pass op now plan) s.tells own
+      s.served.valid s.served.unique s.served.inode_blocks s.served.slots whole s.represents s.well s.handles)

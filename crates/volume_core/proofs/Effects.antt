@@ -1,6 +1,6 @@
 -- Handles and bytes after operations that are carried out by their plans.
-use Rattle.std.proofs.Common.{◌≡◌, ◌≢◌, ℕ, ◌+◌, ◌≤◌, List, [], ◌∷◌, ◌++◌, false, Option, None, Some, refl, sym, ap, ◌∙◌, subst, arith}
-use Rattle.std.specs.Prelude.{IsTrue, ◌==◌, ◌&&◌, ◌||◌, length, not, filter, option_and_then, unwrap_or}
+use Rattle.std.proofs.Common.{◌≡◌, ◌≢◌, ℕ, ◌+◌, ◌≤◌, List, [], ◌∷◌, ◌++◌, Bool, true, false, cond, Option, None, Some, refl, sym, ap, ◌∙◌, subst, arith}
+use Rattle.std.specs.Prelude.{IsTrue, ◌==◌, ◌&&◌, ◌||◌, length, not, filter, unwrap_or}
 use Rattle.std.specs.Map.{remove_entry}
 use Rattle.std.specs.Ordering.{nat_cmp}
 use Rattle.std.specs.BTreeMap.{insert_entry, is_at}
@@ -12,26 +12,19 @@ use Rattle.op_frames.specs.Operations.{is_op}
 use Rattle.op_frames.specs.declared.reply.Reply.{Reply}
 use Rattle.op_frames.specs.declared.reply.Reply.TheVariants as replies
 use Rattle.plain_tree.specs.Tree as tree
-use Rattle.plain_tree.specs.Tree.{Content, Node, Tree, node_at, handle_of, change_node, with_node, with_handle, without_handle, named, touched, stamped}
+use Rattle.plain_tree.specs.Tree.{Content, Node, Tree, node_at, handle_of, change_node, with_node, with_handle, without_handle, without_node, named, touched, stamped}
 use Rattle.plain_tree.specs.Attributes.{attr_of}
 use Rattle.core_rules.specs.Built.{is_built}
 use Rattle.plain_tree.specs.Classes.{Bytes, Class, Trees, class_of, is_of_entries, is_of_inodes}
 use Rattle.plain_tree.specs.WellFormed.{IsWellFormed}
-use Rattle.plain_tree.specs.Checks.{first_failure, node_check, file_check, hand_check, open_check}
-use Rattle.plain_tree.specs.Entries.{entry_at, add_entry, unnamed}
-use Rattle.plain_tree.specs.Files.{bytes_of, file_at, open_file}
+use Rattle.plain_tree.specs.Checks.{first_failure, node_check, file_check, hand_check}
+use Rattle.plain_tree.specs.Entries.{entry_at, add_entry, drop_entry, lives, unnamed}
+use Rattle.plain_tree.specs.Files.{inode_of}
 use Rattle.plain_tree.specs.Operations.{checks, effect, success, attr_reply, new_directory, new_file, make_checks, new_link}
+use Rattle.plain_tree.specs.Subtrees.{dropped}
 use Rattle.plain_tree.specs.Pages.{attribute_page, directory_page, with_attribute, without_attribute}
-use Rattle.s3_rows.specs.Rows.{Inode}
-use Rattle.s3_rows.specs.Tables.{Tables}
-use Rattle.s3_rows.specs.Selections.{inode_at}
-use Rattle.s3_rows.specs.Validity.{IsValid}
-use Rattle.tree_rows.specs.Shapes.{Represents}
-use Rattle.op_checks.proofs.Nodes.{node_absent}
 use Rattle.tree_laws.proofs.File.Unwritten.{KeepsFiles-effect}
-use Rattle.inode_ops.proofs.Opened.{stays_released, released_is, stays_left, left_is}
 use Rattle.ref_counts.specs.Handles.{OpenHandles, HasHandles, opened, closed, closed_all}
-use Rattle.ref_counts.specs.Plans.{AreNamed}
 use Rattle.volume_core.specs.Files.{Files, HasBytes}
 use Rattle.volume_core.specs.Plans.{is_by_plan, inode_opened, opened_by, closed_by}
 use Rattle.volume_core.proofs.Changed.{next_handle_kept, handles_kept, kept_bytes}
@@ -54,6 +47,15 @@ bytes_kept whole files well has pass now op planned passes =
 
 own_handles : (f : Node → Node) (inode : ℕ) (whole : Tree) (h : OpenHandles) → HasHandles h whole → HasHandles h (change_node inode f whole)
 own_handles f inode whole h has = (next_handle_kept f inode whole ∙ has.0, handles_kept f inode whole ∙ has.1)
+
+-- a node that loses an entry leaves them, whether it goes or not
+drop_handles : (h : OpenHandles) (now : ℕ) (inode : Option ℕ) (whole : Tree) → HasHandles h whole → HasHandles h (dropped now inode whole)
+drop_handles h now None whole has = has
+drop_handles h now (Some inode) whole has = by_case (lives (change_node inode (stamped now) whole) inode)
+  where
+    by_case : (b : Bool) → HasHandles h (cond b (change_node inode (stamped now) whole) (without_node inode (change_node inode (stamped now) whole)))
+    by_case true = own_handles (stamped now) inode whole h has
+    by_case false = own_handles (stamped now) inode whole h has
 
 -- ---- a new file
 
@@ -109,35 +111,18 @@ open_handles whole pass inode now h has passes = by_node (node_at whole inode) r
 
 -- ---- Release and Leave
 
-module _ (t : Tables) (whole : Tree) (v : IsValid t) (same : Represents t whole) (all_named : AreNamed t) (h : OpenHandles) (has : HasHandles h whole) (pass now : ℕ) where
-  module _ (number : ℕ) (passes : first_failure (checks whole pass (ops.Release number)) ≡ None) where
-    released : effect whole pass (ops.Release number) now ≡ without_handle number whole
-    released = by_handle (handle_of whole pass number) refl
-      where
-        no_file : (found : Option (List ℕ)) → first_failure (open_check found ∷ []) ≡ None → found ≡ None → ⊥
-        no_file None fails is = cc fails
-        no_file (Some b) fails is = cc is
-
-        by_row : (handle : tree.Handle) → handle_of whole pass number ≡ Some handle → (found : Option Inode) → inode_at t handle.inode ≡ found → effect whole pass (ops.Release number) now ≡ without_handle number whole
-        by_row handle here None there =
-            absurd (no_file (open_file whole pass number) passes (
-            ap (option_and_then (λ (x : tree.Handle). file_at whole x.inode)) here
-            ∙ ap (option_and_then (λ (node : Node). bytes_of node.content)) (node_absent t whole same handle.inode there)
-            ))
-        by_row handle here (Some r) there =
-            released_is t whole pass number now v same all_named handle here (stays_released t whole pass number now v same all_named handle here r there)
-
-        by_handle : (found : Option tree.Handle) → handle_of whole pass number ≡ found → effect whole pass (ops.Release number) now ≡ without_handle number whole
-        by_handle None here = absurd (no_file (open_file whole pass number) passes (ap (option_and_then (λ (x : tree.Handle). file_at whole x.inode)) here))
-        by_handle (Some handle) here = by_row handle here (inode_at t handle.inode) refl
-
-    release_effect : HasHandles (closed number h) (effect whole pass (ops.Release number) now)
-    release_effect = subst (HasHandles (closed number h)) (sym released) (has.0, ap (remove_entry (is_at (nat_cmp number))) has.1)
+module _ (whole : Tree) (h : OpenHandles) (has : HasHandles h whole) (pass now : ℕ) where
+  -- what goes with handles leaves the others
+  release_effect : (number : ℕ) → HasHandles (closed number h) (effect whole pass (ops.Release number) now)
+  release_effect number = by_case (lives (without_handle number whole) (inode_of (handle_of whole pass number)))
+    where
+      by_case : (b : Bool)
+          → HasHandles (closed number h) (cond b (without_handle number whole) (without_node (inode_of (handle_of whole pass number)) (without_handle number whole)))
+      by_case true = (has.0, ap (remove_entry (is_at (nat_cmp number))) has.1)
+      by_case false = (has.0, ap (remove_entry (is_at (nat_cmp number))) has.1)
 
   leave_effect : HasHandles (closed_all pass h) (effect whole pass ops.Leave now)
-  leave_effect =
-      subst (HasHandles (closed_all pass h)) (sym (left_is whole pass now (stays_left t whole pass v same all_named)))
-      (has.0, ap (filter (λ (e : ℕ × tree.Handle). not (e.1.pass == pass))) has.1)
+  leave_effect = (has.0, ap (filter (λ (e : ℕ × tree.Handle). not (e.1.pass == pass))) has.1)
 
   -- ---- all of them
 
@@ -200,13 +185,16 @@ module _ (t : Tables) (whole : Tree) (v : IsValid t) (same : Represents t whole)
   fulfils (ops.Symlink parent name target uid gid) is passes =
       changes (ops.Symlink parent name target uid gid) (λ node. touched now (record node { content = named name whole.next_inode node.content })) parent whole.next_inode
       (with_node (new_link target uid gid now) whole) (has.0, has.1) refl refl refl
+  fulfils (ops.Unlink parent name) is passes =
+      keeps (ops.Unlink parent name) refl refl (drop_handles h now (entry_at whole parent name) (drop_entry parent name now whole)
+      (own_handles (λ node. touched now (record node { content = unnamed name node.content })) parent whole h has))
   fulfils (ops.Rmdir parent name) is passes =
       keeps (ops.Rmdir parent name) refl refl (own_handles (λ node. touched now (record node { content = unnamed name node.content })) parent whole h has)
   fulfils (ops.Open inode) is passes = record {
     hand = λ x some. open_hand whole pass inode passes;
     handles = open_handles whole pass inode now h has passes;
   }
-  fulfils (ops.Release number) is passes = record { hand = λ inode some. absurd (cc some); handles = release_effect number passes }
+  fulfils (ops.Release number) is passes = record { hand = λ inode some. absurd (cc some); handles = release_effect number }
   fulfils ops.Leave is passes = record { hand = λ inode some. absurd (cc some); handles = leave_effect }
   fulfils _ is passes = absurd (cc is)
 

@@ -125,7 +125,6 @@ opened told core s whole ready same start mounting handles files =
       served = record {
         valid = served_valid s.tables v;
         unique = ready.served.unique;
-        named = ready.served.named;
         inode_blocks = ready.served.inode_blocks;
         slots = ready.served.slots;
       };

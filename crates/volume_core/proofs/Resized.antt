@@ -49,7 +49,7 @@ use Rattle.volume_core.proofs.Standing.{told_fact, stepped, told_after}
 -- a regular file's row of the same number, kind and count, and the node that it stands for
 resized_step : (t : Tables) (whole next : Tree) (drawn : ℕ) (r new : Inode) → AreServed t → inode_at t new.id ≡ Some r → new.kind ≡ r.kind → new.refcount ≡ r.refcount → new.kind ≡ kinds.Regular
     → Represents (after_change (changes.PutInode new) t) next → IsStep t (tables_after (changes.PutInode new ∷ []) t) next drawn
-resized_step t whole next drawn r new s there kind count regular same = replaced t next drawn r new there count (resized_valid t r new s.valid there kind count regular s.inode_blocks s.slots) same
+resized_step t whole next drawn r new s there kind count regular same = replaced t next drawn new (resized_valid t r new s.valid there kind count regular s.inode_blocks s.slots) same
 
 regular_of : (r : Inode) → file_checks (Some r) ≡ None → (is_regular r.kind ≡ true) × (r.locked ≡ false)
 regular_of r passes = by_kind r.kind r.locked passes

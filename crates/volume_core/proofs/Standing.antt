@@ -63,7 +63,6 @@ pub served_after : (t after : Tables) (next : Tree) (drawn : ℕ) → AreServed 
 served_after t after next drawn s step = record {
   valid = step.valid;
   unique = step.unique s.unique;
-  named = step.named s.named;
   inode_blocks = step.rest.inode_blocks ∙ s.inode_blocks;
   slots = step.rest.slots ∙ s.slots;
 }

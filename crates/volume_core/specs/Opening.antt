@@ -13,9 +13,14 @@ use Rattle.volume_core.specs.Standing.{AreServed}
 use Rattle.volume_core.specs.declared.row_core.OpenFault.{OpenFault}
 use Rattle.volume_core.specs.declared.row_core.OpenFault.TheVariants as faults
 
--- tables whose regular files are all empty, since nobody keeps their bytes yet
+-- every inode has a name, so no file is kept by handles alone
+abbrev pub AreNamed : Tables → Type 0
+AreNamed t = IsTrue (list_all (λ r. not (r.refcount == 0)) t.inodes)
+
+-- tables whose inodes have names, since nobody has handles yet, and whose regular files are all empty, since nobody keeps their bytes
 pub record AreReady (t : Tables) : Type 0 where
   pub served : AreServed t
+  pub named : AreNamed t
   pub empty : IsTrue (list_all (λ r. not (is_regular r.kind) || r.size == 0) t.inodes)
 
 -- a tree that was just opened: well formed, and without handles

@@ -10,15 +10,14 @@ use Rattle.s3_rows.specs.Told.{Told, IfTold, with_batch}
 use Rattle.s3_rows.specs.Validity.{IsValid, HasUniqueNames}
 use Rattle.tree_rows.specs.Shapes.{Represents}
 use Rattle.ref_counts.specs.Handles.{HasHandles}
-use Rattle.ref_counts.specs.Plans.{AreNamed, LeavesRest, IsSmall}
+use Rattle.ref_counts.specs.Plans.{LeavesRest, IsSmall}
 use Rattle.volume_core.specs.Files.{HasBytes}
 use Rattle.volume_core.specs.declared.row_core.RowCore.{RowCore}
 
--- Tables on which a core works whose files' bytes lie in memory: valid, names unique, and each file named by an entry.
+-- Tables on which a core works whose files' bytes lie in memory: valid, names unique, and no block or slot of a file.
 pub record AreServed (t : Tables) : Type 0 where
   pub valid : IsValid t
   pub unique : HasUniqueNames t
-  pub named : AreNamed t
   pub inode_blocks : t.inode_blocks ≡ []
   pub slots : t.slots ≡ []
 

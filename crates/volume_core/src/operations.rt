@@ -144,6 +144,7 @@ impl<K: Keeper> RowCore<K> {
             Op::Lookup { .. }
             | Op::Mkdir { .. }
             | Op::Create { .. }
+            | Op::Unlink { .. }
             | Op::Rmdir { .. }
             | Op::Link { .. }
             | Op::Readdir { .. } => { self.on_entries(pass, op, now) }
