@@ -2,6 +2,7 @@ ghost use Rattle.std.specs.Prelude.{◌≡◌, ◌<◌, Some, option_map, IsTrue
 ghost use Rattle.std.specs.List.{list_all};
 ghost use Rattle.s3_base.specs.Faults.{HasCause};
 ghost use Rattle.s3_rows.specs.Selections.{inode_at, name_at, entry_at, inode_block_at, block_at, object_at, target_at, attr_at, name_of_bytes, block_of_digest, slot_of_spot, holder_of, entries_listed, attrs_listed, inode_blocks_listed, free_objects_listed, slots_listed, page_of, fits_key, by_entry_name, by_attr_name};
+ghost use Rattle.s3_rows.specs.Ranges.{HasRanges};
 ghost use Rattle.s3_rows.specs.Told.{with_batch, has_failed, is_page, is_run_of, is_run_of_slots, is_page_of, by_number, has_short_name};
 ghost use Rattle.mem_keeper.specs.Memory.{IsCall};
 
@@ -46,6 +47,7 @@ impl Keeper for MemKeeper {
 
     fn params(&mut self) -> Result<Option<Params>, KeeperFault>
         ensures row { IfOk result (λ r. r ≡ self.old.told.tables.params) }
+        ensures ranges { IfOk result (λ r. HasRanges self.old.told.tables) }
         ensures same { self.new.told ≡ self.old.told }
         ensures cause { HasCause self.old.faults self.new.faults (has_failed result) }
         ensures call { IsCall result self.old self.new }

@@ -2,6 +2,7 @@ pub mod Batches
 pub mod Counts
 pub mod Keyed
 pub mod Made
+pub mod Ranges
 pub mod Rows
 pub mod Selections
 pub mod Stores

@@ -3,6 +3,7 @@ ghost use Rattle.std.specs.Prelude.{◌≡◌, ◌<◌, ℕ, Option, option_map,
 ghost use Rattle.std.specs.List.{list_all};
 ghost use Rattle.s3_base.specs.Faults.{HasCause};
 ghost use Rattle.s3_rows.specs.Selections.{inode_at, name_at, entry_at, inode_block_at, block_at, object_at, target_at, attr_at, name_of_bytes, block_of_digest, slot_of_spot, holder_of, entries_listed, attrs_listed, inode_blocks_listed, free_objects_listed, slots_listed, page_of, fits_key, by_entry_name, by_attr_name};
+ghost use Rattle.s3_rows.specs.Ranges.{HasRanges};
 ghost use Rattle.s3_rows.specs.Told.{Told, with_batch, IfTold, has_failed, is_page, is_run_of, is_run_of_slots, is_page_of, by_number, has_short_name};
 
 use crate::{
@@ -49,9 +50,10 @@ pub trait Keeper {
         ensures err { OnErr result (told self.new ≡ told self.old) }
         ensures cause { HasCause (faults self.old) (faults self.new) (has_failed result) };
 
-    /// The parameters, none before a file system is made.
+    /// The parameters, none before a file system is made. The rows of all tables keep the ranges of their fields.
     fn params(&mut self) -> Result<Option<Params>, KeeperFault>
         ensures row { IfOk result (λ r. IfTold (told self.old) (λ t. r ≡ t.params)) }
+        ensures ranges { IfOk result (λ r. IfTold (told self.old) HasRanges) }
         ensures same { told self.new ≡ told self.old }
         ensures cause { HasCause (faults self.old) (faults self.new) (has_failed result) };
 

@@ -1,6 +1,6 @@
 -- What tables need beside a well-formed tree that they represent to be valid, and what valid tables need for their tree
 -- to be well formed.
-use Rattle.std.specs.Prelude.{ℕ, ◌==◌, ◌^◌, ◌≤◌, length, All, Bool, true, not, ◌&&◌, ◌||◌, nat_lt, nat_le, IsTrue, Option, None, Some, is_some}
+use Rattle.std.specs.Prelude.{ℕ, ◌==◌, ◌^◌, ◌≤◌, length, Bool, true, not, ◌&&◌, ◌||◌, nat_lt, nat_le, IsTrue, Option, None, Some, is_some}
 use Rattle.std.specs.List.{list_all}
 use Rattle.std.specs.Option.{ForSome}
 use Rattle.s3_base.specs.declared.node_kind.Kind.{Kind}
@@ -9,7 +9,7 @@ use Rattle.plain_tree.specs.Tree.{Tree, node_at}
 use Rattle.plain_tree.specs.Entries.{is_open}
 use Rattle.plain_tree.specs.Numbers.{HandlesInOrder}
 use Rattle.plain_tree.specs.WellFormed.{is_file}
-use Rattle.s3_rows.specs.Rows.{Inode, Content, InodeBlock, Target, Parameters, IsInode, IsName, IsContent, IsInodeBlock, IsBlock, IsObject, IsTarget, IsAttr, IsSlot, IsParameters}
+use Rattle.s3_rows.specs.Rows.{Inode, Content, InodeBlock, Target, Parameters}
 use Rattle.s3_rows.specs.Tables.{Tables, IsOrdered}
 use Rattle.s3_rows.specs.Selections.{name_at, block_at, target_at}
 use Rattle.s3_rows.specs.Validity.{is_directory, is_regular, is_link, has_inode, finds_of_attr, differ, have_one_name, HasExactCounts, HasDistinctBlocks, is_in_file, have_one_spot}
@@ -76,19 +76,6 @@ pub record HasPremises (t : Tables) : Type 0 where
   pub free : ForSome t.params (HasFreeIds t)
 
 -- ---- the way back
-
--- parameters and rows keep their ranges
-pub record HasRanges (t : Tables) : Type 0 where
-  pub params : ForSome t.params IsParameters
-  pub inodes : All IsInode t.inodes
-  pub names : All IsName t.names
-  pub contents : All IsContent t.contents
-  pub inode_blocks : All IsInodeBlock t.inode_blocks
-  pub blocks : All IsBlock t.blocks
-  pub objects : All IsObject t.objects
-  pub targets : All IsTarget t.targets
-  pub attrs : All IsAttr t.attrs
-  pub slots : All IsSlot t.slots
 
 -- an inode that no entry names is a regular file
 abbrev pub is_named_or_regular : Inode → Bool

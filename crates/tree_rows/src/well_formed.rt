@@ -2,10 +2,11 @@ ghost use Rattle.std.specs.Prelude.{◌≡◌, ◌==◌, [], not, IsTrue};
 ghost use Rattle.std.specs.List.{list_all};
 ghost use Rattle.plain_tree.specs.Tree.{Tree};
 ghost use Rattle.plain_tree.specs.WellFormed.{IsWellFormed, HasTimes};
+ghost use Rattle.s3_rows.specs.Ranges.{HasRanges};
 ghost use Rattle.s3_rows.specs.Keyed.{rises};
 ghost use Rattle.s3_rows.specs.Tables.{Tables, by_entry};
 ghost use Rattle.s3_rows.specs.Validity.{IsValid, HasUniqueNames, differ, have_one_name};
-ghost use Rattle.tree_rows.specs.Premises.{HasPremises, HasRanges, HasItsHandles, finds_directory_and_name, is_named_or_regular};
+ghost use Rattle.tree_rows.specs.Premises.{HasPremises, HasItsHandles, finds_directory_and_name, is_named_or_regular};
 ghost use Rattle.tree_rows.specs.Shapes.{Represents};
 
 /// Tables that represent a well-formed tree are valid where they are in order, no directory has two entries of one name, the

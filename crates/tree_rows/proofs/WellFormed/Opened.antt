@@ -7,11 +7,12 @@ use Rattle.plain_tree.specs.Tree.{Handle, Tree, node_at}
 use Rattle.plain_tree.specs.Entries.{is_open}
 use Rattle.plain_tree.specs.Numbers.{Ascend}
 use Rattle.plain_tree.specs.WellFormed.{IsWellFormed, is_file}
+use Rattle.s3_rows.specs.Ranges.{HasRanges}
 use Rattle.s3_rows.specs.Rows.{Inode}
 use Rattle.s3_rows.specs.Tables.{Tables}
 use Rattle.s3_rows.specs.Validity.{IsValid, is_regular}
 use Rattle.row_lemmas.proofs.Tests.{list_all_weaker}
-use Rattle.tree_rows.specs.Premises.{HasRanges, HasItsHandles, is_named_or_regular, is_named_or_open}
+use Rattle.tree_rows.specs.Premises.{HasItsHandles, is_named_or_regular, is_named_or_open}
 use Rattle.tree_rows.specs.Shapes.{Represents}
 use Rattle.tree_rows.proofs.WellFormed.Tree.{IsWellFormed_from_valid}
 

@@ -14,13 +14,14 @@ use Rattle.plain_tree.specs.Entries.{entries_of, is_named, is_open}
 use Rattle.plain_tree.specs.Names.{Rise, NamesRise, AttributesRise}
 use Rattle.plain_tree.specs.Numbers.{Ascend, InOrder}
 use Rattle.plain_tree.specs.WellFormed.{IsWellFormed, HasTimes, HasNoOrphans, IsWithinLimits, AreWithinLimits, HaveModes, AreTimes, is_file}
+use Rattle.s3_rows.specs.Ranges.{HasRanges}
 use Rattle.s3_rows.specs.Rows.{Inode, Content, IsInode, IsName, IsAttr, IsTarget}
 use Rattle.s3_rows.specs.Keyed.{has_key}
 use Rattle.s3_rows.specs.Tables.{Tables, by_inode}
 use Rattle.s3_rows.specs.Selections.{inode_at}
 use Rattle.s3_rows.specs.Validity.{IsValid, finds_target, is_regular, any_kind}
 use Rattle.row_lemmas.proofs.Tests.{find_passes_all}
-use Rattle.tree_rows.specs.Premises.{HasRanges, HasItsHandles, is_named_or_regular, is_named_or_open}
+use Rattle.tree_rows.specs.Premises.{HasItsHandles, is_named_or_regular, is_named_or_open}
 use Rattle.tree_rows.specs.Shapes.{Regular, NodeShape, TreeShape, shape_of_content, shape_of_node, node_of_row, Represents}
 use Rattle.tree_rows.proofs.Replaced.{node_of}
 use Rattle.tree_rows.proofs.Rooted.{is_one_tree, stored_count}
