@@ -13,7 +13,6 @@ use op_frames::{Op, Reply};
 use s3_rows::{Keeper, made_batch};
 use std::alloc::{AllocError, Global};
 use steady_keeper::SteadyKeeper;
-use tree_laws::made_trees_are_well_formed;
 use tree_rows::made_tables_are_the_made_tree;
 use volume_core::{RowCore, made_tables_are_ready};
 
@@ -46,7 +45,6 @@ pub fn open_made(alloc: Global, block_size: u32, slots: u32) -> Result<Served, A
 {
     made_tables_are_ready();
     made_tables_are_the_made_tree();
-    made_trees_are_well_formed();
     let keeper = made_keeper(alloc, block_size, slots)?;
     match RowCore::open(alloc, keeper) {
         Ok(core) => Ok(core),

@@ -9,11 +9,13 @@ use Rattle.s3_rows.specs.Rows.{Inode, Parameters}
 use Rattle.s3_rows.specs.Keyed.{has_key}
 use Rattle.s3_rows.specs.Tables.{Tables, by_inode}
 use Rattle.s3_rows.specs.Selections.{inode_at}
+use Rattle.s3_rows.specs.Ranges.{HasRanges}
 use Rattle.s3_rows.specs.Told.{Told, one_more, with_batch}
 use Rattle.s3_rows.specs.Validity.{IsValid, is_directory, is_regular, is_below_root}
 use Rattle.row_lemmas.proofs.Tables.{IsOrdered-after_change, leads_to_root_same}
 use Rattle.row_lemmas.proofs.Tests.{list_all_weaker, find_passes_all}
 use Rattle.tree_rows.specs.Shapes.{shape_of_tables, Represents}
+use Rattle.tree_rows.proofs.WellFormed.Opened.{IsWellFormed_from_named}
 use Rattle.ref_counts.specs.Handles.{no_handles}
 use Rattle.volume_core.specs.declared.row_core.RowCore.{RowCore}
 use Rattle.volume_core.specs.Files.{Files, HasBytes}
@@ -112,9 +114,9 @@ empty_files t whole same empty = record { bytes = each; fresh = λ x above. refl
     each x b is = by_row x b (inode_at t x) refl is
 
 -- a core with the tables of a file system that is mounted, no handles and no bytes
-pub opened : {K : Type 0} (told : K → Option Told) (core : RowCore K) (s : Told) (whole : Tree) → AreReady s.tables → Represents s.tables whole → IsOpened whole → IsMounting s (told core.keeper)
+pub opened : {K : Type 0} (told : K → Option Told) (core : RowCore K) (s : Told) (whole : Tree) → AreReady s.tables → Represents s.tables whole → IsOpened whole → IsMounting s (told core.keeper) → HasRanges s.tables
     → core.handles ≡ no_handles → core.files ≡ [] → StandsFor told core whole
-opened told core s whole ready same start mounting handles files =
+opened told core s whole ready same start mounting ranges handles files =
     let v : IsValid s.tables = ready.served.valid in
     let p : Parameters = mounting.0 in
     let own : Some p ≡ Some v.params = sym mounting.1 ∙ v.is_made in
@@ -130,7 +132,7 @@ opened told core s whole ready same start mounting handles files =
       };
       mounted = refl;
       represents = served_represents s.tables v whole same;
-      well = start.0;
-      handles = (start.1 ∙ ap (λ h. h.next) (sym handles), start.2 ∙ ap (λ h. h.handles) (sym handles));
+      well = IsWellFormed_from_named s.tables whole v ranges ready.named same start.1 start.0;
+      handles = (start.0 ∙ ap (λ h. h.next) (sym handles), start.1 ∙ ap (λ h. h.handles) (sym handles));
       bytes = subst (λ (f : Files). HasBytes f whole) (sym files) (empty_files s.tables whole same ready.empty);
     }

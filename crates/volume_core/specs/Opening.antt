@@ -2,7 +2,6 @@
 use Rattle.std.specs.Prelude.{◌≡◌, ◌==◌, Bool, true, false, ◌||◌, not, [], ◌∷◌, IsTrue, Option, None, Some}
 use Rattle.std.specs.List.{list_all}
 use Rattle.plain_tree.specs.Tree.{Tree}
-use Rattle.plain_tree.specs.WellFormed.{IsWellFormed}
 use Rattle.s3_rows.specs.declared.change.Change.TheVariants as changes
 use Rattle.s3_rows.specs.declared.params.State.TheVariants as states
 use Rattle.s3_rows.specs.Rows.{Parameters}
@@ -23,9 +22,9 @@ pub record AreReady (t : Tables) : Type 0 where
   pub named : AreNamed t
   pub empty : IsTrue (list_all (λ r. not (is_regular r.kind) || r.size == 0) t.inodes)
 
--- a tree that was just opened: well formed, and without handles
+-- a tree that was just opened: without handles
 abbrev pub IsOpened : Tree → Type 0
-IsOpened whole = IsWellFormed whole × (whole.next_handle ≡ 1) × (whole.handles ≡ [])
+IsOpened whole = (whole.next_handle ≡ 1) × (whole.handles ≡ [])
 
 -- the parameters of a file system that is served
 abbrev pub mounted : Parameters → Parameters

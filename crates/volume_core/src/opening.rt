@@ -2,6 +2,7 @@
 ghost use Rattle.std.specs.Prelude.{◌≡◌, ◌≤◌, Some, None, IfOk, IfErr, OnOk, OnErr};
 ghost use Rattle.s3_base.specs.Faults.{HasCause};
 ghost use Rattle.plain_tree.specs.Tree.{Tree};
+ghost use Rattle.s3_rows.specs.Ranges.{HasRanges};
 ghost use Rattle.s3_rows.specs.Tables.{Tables};
 ghost use Rattle.s3_rows.specs.Told.{Told, IfTold};
 ghost use Rattle.tree_rows.specs.Shapes.{Represents};
@@ -61,6 +62,7 @@ impl<K: Keeper> RowCore<K> {
 fn mount<K: Keeper>(alloc: Global, keeper: &mut K) -> Result<(), OpenFault>
     ensures ok { OnOk result ((s : Told) → K.told keeper.old ≡ Some s → IsMounting s (K.told keeper.new)) }
     ensures untold { OnOk result (K.told keeper.old ≡ None → K.told keeper.new ≡ None) }
+    ensures ranges { OnOk result (IfTold (K.told keeper.old) HasRanges) }
     ensures err { OnErr result (K.told keeper.new ≡ K.told keeper.old) }
     ensures cause { IfErr result (λ fault. IfTold (K.told keeper.old) (λ t. IsCauseOf fault t.params)) }
     ensures later { OnOk result (K.faults keeper.old ≤ K.faults keeper.new) }

@@ -13,4 +13,4 @@ returns-in-Ok c =
     let made : c.in_ok-keeper.keeper.tables ≡ made_tables b c.args.slots 0 = c.in_ok-keeper.ensures in
     let ready : AreReady c.in_ok-keeper.keeper.tables = subst (λ (t : Tables). AreReady t) (sym made) (c.made_tables_are_ready.ensures b c.args.slots 0) in
     let same : Represents c.in_ok-keeper.keeper.tables (made_tree b 0) = subst (λ (t : Tables). Represents t (made_tree b 0)) (sym made) (c.made_tables_are_the_made_tree.ensures.represents b c.args.slots 0) in
-    opened c.in-Ok.core c.in_ok-keeper.keeper b c.args.slots made (c.in-Ok.ensures.stands c.in_ok-keeper.keeper (made_tree b 0) refl ready same (c.made_trees_are_well_formed.ensures.made b 0, refl, refl)) (c.in-Ok.ensures.mounted c.in_ok-keeper.keeper refl)
+    opened c.in-Ok.core c.in_ok-keeper.keeper b c.args.slots made (c.in-Ok.ensures.stands c.in_ok-keeper.keeper (made_tree b 0) refl ready same (refl, refl)) (c.in-Ok.ensures.mounted c.in_ok-keeper.keeper refl)
