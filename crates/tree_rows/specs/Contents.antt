@@ -9,8 +9,8 @@ use Rattle.plain_tree.specs.Tree as tree
 use Rattle.block_math.specs.Changes.{padded}
 use Rattle.s3_rows.specs.Rows.{Inode, Block}
 use Rattle.s3_rows.specs.Tables.{Tables}
-use Rattle.s3_rows.specs.Selections.{inode_block_at, block_at}
 use Rattle.tree_rows.specs.Shapes.{entries_in, attributes_in, target_in}
+use Rattle.tree_rows.specs.Spots.{form_at}
 
 -- what blocks hold: digests, each with the bytes that have it
 abbrev pub Contents : Type 0
@@ -35,8 +35,7 @@ Fits digest_of contents t = AreDigests digest_of contents × HaveBytes contents 
 
 -- the stored form of a block of a file; nothing where no row names one
 abbrev pub stored_at : Contents → Tables → ℕ → ℕ → List ℕ
-stored_at contents t inode blockno =
-    unwrap_or (option_and_then (λ r. option_and_then (λ b. bytes_of contents b.digest.0) (block_at t r.block)) (inode_block_at t inode blockno)) []
+stored_at contents t inode blockno = unwrap_or (option_and_then (λ form. bytes_of contents form.0) (form_at t inode blockno)) []
 
 -- so many blocks of a file, from one on
 abbrev pub blocks_from : Contents → Tables → ℕ → ℕ → ℕ → ℕ → List ℕ

@@ -4,3 +4,4 @@ pub mod Listings
 pub mod NamedAttrs
 pub mod Premises
 pub mod Shapes
+pub mod Spots

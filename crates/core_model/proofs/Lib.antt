@@ -1,0 +1,4 @@
+pub mod Agreeing
+pub mod Elements
+pub mod Known
+pub mod Runs

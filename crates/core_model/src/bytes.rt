@@ -1,0 +1,27 @@
+//! Laws of bytes that rows and contents have.
+ghost use Rattle.std.specs.Prelude.{◌≡◌, ℕ, List, Option, None, Some};
+ghost use Rattle.plain_tree.specs.Tree.{Tree};
+ghost use Rattle.plain_tree.specs.Files.{file_at};
+ghost use Rattle.block_math.specs.Blocks.{piece_of, trimmed};
+ghost use Rattle.s3_rows.specs.Tables.{Tables};
+ghost use Rattle.tree_rows.specs.Contents.{Contents};
+ghost use Rattle.core_model.specs.Bytes.{AgreesAt, Overlay, shown_at};
+ghost use Rattle.core_model.specs.Exact.{IsExactAt};
+ghost use Rattle.core_model.specs.Occurring.{Knows};
+
+/// Two spots that show the same bytes agree alike with files that have the same bytes there.
+pub fn spots_that_show_the_same_agree_alike()
+    ensures { (m : Contents) (t other : Tables) (over beside : Overlay) (whole after : Tree) (inode blockno copy copyno : ℕ)
+        → shown_at m other beside copy copyno ≡ shown_at m t over inode blockno
+        → ((bytes : List ℕ) → file_at after copy ≡ Some bytes → (own : List ℕ) × (file_at whole inode ≡ Some own)
+            × (piece_of after.block_size bytes copyno ≡ piece_of whole.block_size own blockno))
+        → AgreesAt m t over whole inode blockno → AgreesAt m other beside after copy copyno }
+{}
+
+/// A spot that is exact, and whose trimmed block the contents know, shows the bytes of the file.
+pub fn exact_spots_agree()
+    ensures { (digest_of : List ℕ → List ℕ) (m : Contents) (t : Tables) (over : Overlay) (whole : Tree) (inode blockno : ℕ)
+        → over inode blockno ≡ None → IsExactAt digest_of t whole inode blockno
+        → ((bytes : List ℕ) → file_at whole inode ≡ Some bytes → Knows digest_of m (trimmed (piece_of whole.block_size bytes blockno)))
+        → AgreesAt m t over whole inode blockno }
+{}

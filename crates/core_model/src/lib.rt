@@ -1,0 +1,13 @@
+//! What a core is to its tree: the blocks that occur along its calls, the bytes that rows and contents have, which blocks a call
+//! changes, and what the object store holds.
+#![tactic(auto)]
+
+mod bytes;
+mod occurring;
+mod worked;
+
+pub use bytes::{exact_spots_agree, spots_that_show_the_same_agree_alike};
+pub use occurring::{
+    contents_of_blocks_know_them, longer_runs_have_more_blocks, trees_on_the_way_occur,
+};
+pub use worked::blocks_worked_by_hand;
