@@ -32,7 +32,7 @@ get_or-zeros (suc n) zero = refl
 get_or-zeros (suc n) (suc i) = get_or-zeros n i
 
 -- zeros at the end are as what lies past it
-get_or-padded : (size : ℕ) (bytes : List ℕ) (i : ℕ) → get_or (padded size bytes) i 0 ≡ get_or bytes i 0
+pub get_or-padded : (size : ℕ) (bytes : List ℕ) (i : ℕ) → get_or (padded size bytes) i 0 ≡ get_or bytes i 0
 get_or-padded size bytes i = by_case (cases_lt i (length bytes))
   where
     by_case : (i < length bytes) ⊎ (length bytes ≤ i) → get_or (padded size bytes) i 0 ≡ get_or bytes i 0

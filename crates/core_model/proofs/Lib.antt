@@ -1,4 +1,6 @@
 pub mod Agreeing
 pub mod Elements
+pub mod LinkedForms
 pub mod Known
 pub mod Runs
+pub mod Shown

@@ -1,11 +1,12 @@
 //! Laws of bytes that rows and contents have.
-ghost use Rattle.std.specs.Prelude.{◌≡◌, ℕ, List, Option, None, Some};
+ghost use Rattle.std.specs.Prelude.{◌≡◌, ◌≤◌, ◌⊎◌, ℕ, List, None, Some, length};
 ghost use Rattle.plain_tree.specs.Tree.{Tree};
 ghost use Rattle.plain_tree.specs.Files.{file_at};
 ghost use Rattle.block_math.specs.Blocks.{piece_of, trimmed};
+ghost use Rattle.block_math.specs.Changes.{resized};
 ghost use Rattle.s3_rows.specs.Tables.{Tables};
 ghost use Rattle.tree_rows.specs.Contents.{Contents};
-ghost use Rattle.core_model.specs.Bytes.{AgreesAt, Overlay, shown_at};
+ghost use Rattle.core_model.specs.Bytes.{AgreesAt, Overlay, Shows, shown_at};
 ghost use Rattle.core_model.specs.Exact.{IsExactAt};
 ghost use Rattle.core_model.specs.Occurring.{Knows};
 
@@ -24,4 +25,9 @@ pub fn exact_spots_agree()
         → over inode blockno ≡ None → IsExactAt digest_of t whole inode blockno
         → ((bytes : List ℕ) → file_at whole inode ≡ Some bytes → Knows digest_of m (trimmed (piece_of whole.block_size bytes blockno)))
         → AgreesAt m t over whole inode blockno }
+{}
+
+/// Bytes that begin with a piece begin with it cut, and lengthened with zeros where they have no more bytes than the piece.
+pub fn shown_pieces_may_be_resized()
+    ensures { (piece shown : List ℕ) (len : ℕ) → Shows piece shown → (len ≤ length piece) ⊎ (length shown ≤ length piece) → Shows (resized len piece) shown }
 {}

@@ -3,10 +3,16 @@
 #![tactic(auto)]
 
 mod bytes;
+mod forms;
 mod occurring;
 mod worked;
 
-pub use bytes::{exact_spots_agree, spots_that_show_the_same_agree_alike};
+pub use bytes::{
+    exact_spots_agree, shown_pieces_may_be_resized, spots_that_show_the_same_agree_alike,
+};
+pub use forms::{
+    forms_are_links_and_blocks, forms_follow_links, unnamed_blocks_leave_forms,
+};
 pub use occurring::{
     contents_of_blocks_know_them, longer_runs_have_more_blocks, trees_on_the_way_occur,
 };
