@@ -2,5 +2,6 @@ pub mod Agreeing
 pub mod Elements
 pub mod LinkedForms
 pub mod Known
+pub mod Left
 pub mod Runs
 pub mod Shown

@@ -8,7 +8,7 @@ use Rattle.block_math.proofs.LengthLemmas.{length-resized}
 use Rattle.core_model.specs.Bytes.{Shows}
 
 -- a byte of resized bytes is that of the bytes, or zero
-get_or-resized : (len : ℕ) (bytes : List ℕ) (i : ℕ) → i < len → get_or (resized len bytes) i 0 ≡ get_or bytes i 0
+pub get_or-resized : (len : ℕ) (bytes : List ℕ) (i : ℕ) → i < len → get_or (resized len bytes) i 0 ≡ get_or bytes i 0
 get_or-resized len bytes i below = get_or-take len (padded len bytes) i 0 below ∙ get_or-padded len bytes i
 
 -- the byte at a place, where the piece ends before it or has it

@@ -1,6 +1,8 @@
 -- Which blocks of a file a call changes, and which it needs for it. All numbers of blocks rise.
-use Rattle.std.specs.Prelude.{ℕ, zero, suc, ◌+◌, ◌-◌, ◌*◌, ◌/◌, ◌%◌, ◌==◌, min, List, [], ◌∷◌, ◌++◌, Bool, not, ◌&&◌, nat_lt, nat_le, Option, None, Some, if◌then◌else◌}
+use Rattle.std.specs.Prelude.{◌≡◌, ◌≤◌, ◌⊎◌, length, ℕ, zero, suc, ◌+◌, ◌-◌, ◌*◌, ◌/◌, ◌%◌, ◌==◌, min, List, [], ◌∷◌, ◌++◌, Bool, not, ◌&&◌, nat_lt, nat_le, if◌then◌else◌}
 use Rattle.std.specs.List.{filter}
+use Rattle.block_math.specs.Blocks.{piece_of}
+use Rattle.block_math.specs.Changes.{resized}
 use Rattle.block_math.specs.Ranges.{piece_count}
 
 -- so many numbers from one on
@@ -42,3 +44,9 @@ is_overwritten size off count n = nat_le off (n * size) && nat_le ((n + 1) * siz
 -- of the changed blocks those that a write does not overwrite whole
 abbrev pub needed_by_write : ℕ → ℕ → ℕ → List ℕ → List ℕ
 needed_by_write size off count changed = filter (λ n. not (is_overwritten size off count n)) changed
+
+-- A block that a change of a file leaves alone: what lies in it then is what lay in it before, cut or with zeros behind it, and its
+-- stored form has no byte that would then show.
+pub record IsLeft (size n : ℕ) (stored : ℕ → ℕ) (before after : List ℕ) : Type 0 where
+  pub piece : piece_of size after n ≡ resized (length (piece_of size after n)) (piece_of size before n)
+  pub fits : (length (piece_of size after n) ≤ length (piece_of size before n)) ⊎ (stored n ≤ length (piece_of size before n))

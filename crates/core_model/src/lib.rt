@@ -3,6 +3,7 @@
 #![tactic(auto)]
 
 mod bytes;
+mod changes;
 mod forms;
 mod occurring;
 mod worked;
@@ -10,6 +11,7 @@ mod worked;
 pub use bytes::{
     exact_spots_agree, shown_pieces_may_be_resized, spots_that_show_the_same_agree_alike,
 };
+pub use changes::other_blocks_are_left;
 pub use forms::{
     forms_are_links_and_blocks, forms_follow_links, unnamed_blocks_leave_forms,
 };
