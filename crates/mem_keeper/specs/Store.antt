@@ -1,6 +1,9 @@
 -- The tables that vectors of rows are, and how many more rows they have room for.
 use Rattle.std.specs.Prelude.{ℕ, ◌+◌, ◌≤◌}
 use Rattle.std.specs.Vec.{vec_len, vec_capacity}
+use Rattle.s3_rows.specs.declared.change.Change.{Change}
+use Rattle.s3_rows.specs.declared.change.Change.TheVariants as changes
+use Rattle.s3_rows.specs.Rows.{IsInode, IsName, IsContent, IsInodeBlock, IsBlock, IsObject, IsTarget, IsAttr, IsSlot, IsParameters}
 use Rattle.s3_rows.specs.Tables.{Tables}
 use Rattle.mem_keeper.specs.declared.store.Store.{Store}
 
@@ -29,3 +32,17 @@ pub record HasRoom (n : ℕ) (s : Store) : Type 0 where
   pub targets : vec_len s.targets + n ≤ vec_capacity s.targets
   pub attrs : vec_len s.attrs + n ≤ vec_capacity s.attrs
   pub slots : vec_len s.slots + n ≤ vec_capacity s.slots
+
+-- what the change puts keeps its ranges
+abbrev pub IsFitChange : Change → Type 0
+IsFitChange (changes.PutInode r) = IsInode r
+IsFitChange (changes.PutName r) = IsName r
+IsFitChange (changes.PutContent r) = IsContent r
+IsFitChange (changes.PutInodeBlock r) = IsInodeBlock r
+IsFitChange (changes.PutBlock r) = IsBlock r
+IsFitChange (changes.PutObject r) = IsObject r
+IsFitChange (changes.PutTarget r) = IsTarget r
+IsFitChange (changes.PutAttr r) = IsAttr r
+IsFitChange (changes.PutSlot r) = IsSlot r
+IsFitChange (changes.SetParams p) = IsParameters p
+IsFitChange _ = Unit {0}

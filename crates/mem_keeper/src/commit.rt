@@ -3,6 +3,7 @@ ghost use Rattle.std.specs.Prelude.{◌≡◌, ℕ, ◌+◌, length, IsTrue, IfO
 ghost use Rattle.std.specs.Vec.{vec_len, vec_capacity};
 ghost use Rattle.s3_rows.specs.Tables.{IsOrdered};
 ghost use Rattle.s3_rows.specs.Batches.{tables_after};
+ghost use Rattle.s3_rows.specs.Ranges.{HasRanges};
 ghost use Rattle.mem_keeper.specs.Indexes.{Stand, IsListedChange, StayListed};
 ghost use Rattle.mem_keeper.specs.Store.{tables_of, HasRoom};
 
@@ -30,8 +31,10 @@ fn make_room(store: &mut Store, rows: usize) -> Result<(), AllocError>
 // Makes the changes in order.
 fn apply_changes(store: &mut Store, gone: &mut Gone, mut changes: Vec<Change>)
     requires ordered { IsOrdered (tables_of store.old) }
+    requires ranges { HasRanges (tables_of store.old) }
     requires room { HasRoom (length changes.items) store.old }
     ensures tables { tables_of store.new ≡ tables_after changes.items (tables_of store.old) }
+    ensures ranges { HasRanges (tables_of store.new) }
 {
     changes.reverse();
     while let Some(change) = changes.pop() {
@@ -42,12 +45,14 @@ fn apply_changes(store: &mut Store, gone: &mut Gone, mut changes: Vec<Change>)
 // Makes the changes in order, and keeps the indexes.
 fn apply_whole(store: &mut Store, indexes: &mut Indexes, mut gone: Gone, changes: Vec<Change>)
     requires ordered { IsOrdered (tables_of store.old) }
+    requires ranges { HasRanges (tables_of store.old) }
     requires room { HasRoom (length changes.items) store.old }
     requires standing { IsTrue indexes.old.stand → Stand indexes.old (tables_of store.old) }
     requires listed { IsTrue indexes.old.stand → All (IsListedChange indexes.old) changes.items }
     ensures tables { tables_of store.new ≡ tables_after changes.items (tables_of store.old) }
     ensures ordered { IsOrdered (tables_of store.new) }
     ensures standing { IsTrue indexes.new.stand → Stand indexes.new (tables_of store.new) }
+    ensures ranges { HasRanges (tables_of store.new) }
 {
     apply_changes(store, &mut gone, changes);
     if indexes.stand {
@@ -91,11 +96,13 @@ pub(crate) fn commit_batch(
     batch: &Batch,
 ) -> Result<(), AllocError>
     requires ordered { IsOrdered (tables_of store.old) }
+    requires ranges { HasRanges (tables_of store.old) }
     requires standing { IsTrue indexes.old.stand → Stand indexes.old (tables_of store.old) }
     ensures ok { OnOk result (tables_of store.new ≡ tables_after batch.now (tables_of store.old)) }
     ensures err { OnErr result (tables_of store.new ≡ tables_of store.old) }
     ensures ordered { IsOrdered (tables_of store.new) }
     ensures standing { IsTrue indexes.new.stand → Stand indexes.new (tables_of store.new) }
+    ensures ranges { HasRanges (tables_of store.new) }
 {
     let changes = copy_of(batch)?.into_vec();
     let gone = room_for_gone(alloc, changes.len())?;

@@ -1,5 +1,6 @@
 //! The key of each table's rows.
 ghost use Rattle.std.specs.Prelude.{◌≡◌};
+ghost use Rattle.s3_rows.specs.Rows.{IsInode, IsName, IsContent, IsInodeBlock, IsBlock, IsObject, IsTarget, IsAttr, IsSlot};
 
 use s3_rows::{
     AttrRow, BlockRow, ContentRow, InodeBlockRow, InodeRow, NameRow, ObjectRow, SlotRow, TargetRow,
@@ -11,14 +12,20 @@ pub(crate) trait Keyed: Drop {
 
     ghost key: { Self → Self.Key };
 
+    // The fields keep their ranges.
+    ghost fits: { Self → Type 0 };
+
     fn key(&self) -> Self::Key
-        ensures { result ≡ key self.now };
+        ensures key { result ≡ key self.now }
+        ensures fits { fits self.now };
 }
 
 impl Keyed for InodeRow {
     type Key = u64;
 
     ghost key = { λ r. r.id };
+
+    ghost fits = { IsInode };
 
     fn key(&self) -> u64 {
         self.id
@@ -30,6 +37,8 @@ impl Keyed for NameRow {
 
     ghost key = { λ r. r.id };
 
+    ghost fits = { IsName };
+
     fn key(&self) -> u64 {
         self.id
     }
@@ -39,6 +48,8 @@ impl Keyed for ContentRow {
     type Key = (u64, u64);
 
     ghost key = { λ r. (r.parent, r.name_id) };
+
+    ghost fits = { IsContent };
 
     fn key(&self) -> (u64, u64) {
         (self.parent, self.name_id)
@@ -50,6 +61,8 @@ impl Keyed for InodeBlockRow {
 
     ghost key = { λ r. (r.inode, r.blockno) };
 
+    ghost fits = { IsInodeBlock };
+
     fn key(&self) -> (u64, u64) {
         (self.inode, self.blockno)
     }
@@ -59,6 +72,8 @@ impl Keyed for BlockRow {
     type Key = u64;
 
     ghost key = { λ r. r.id };
+
+    ghost fits = { IsBlock };
 
     fn key(&self) -> u64 {
         self.id
@@ -70,6 +85,8 @@ impl Keyed for ObjectRow {
 
     ghost key = { λ r. r.id };
 
+    ghost fits = { IsObject };
+
     fn key(&self) -> u64 {
         self.id
     }
@@ -79,6 +96,8 @@ impl Keyed for TargetRow {
     type Key = u64;
 
     ghost key = { λ r. r.inode };
+
+    ghost fits = { IsTarget };
 
     fn key(&self) -> u64 {
         self.inode
@@ -90,6 +109,8 @@ impl Keyed for AttrRow {
 
     ghost key = { λ r. (r.inode, r.name_id) };
 
+    ghost fits = { IsAttr };
+
     fn key(&self) -> (u64, u64) {
         (self.inode, self.name_id)
     }
@@ -99,6 +120,8 @@ impl Keyed for SlotRow {
     type Key = u32;
 
     ghost key = { λ r. r.slot };
+
+    ghost fits = { IsSlot };
 
     fn key(&self) -> u32 {
         self.slot

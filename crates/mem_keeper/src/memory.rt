@@ -2,7 +2,7 @@ ghost use Rattle.std.specs.Prelude.{◌≡◌, []};
 ghost use Rattle.s3_rows.specs.Tables.{no_tables};
 
 use crate::indexes::Indexes;
-use crate::store::Store;
+use crate::store::{Store, tell_all_ranges};
 use s3_base::NumberList;
 use s3_rows::Tables;
 use std::alloc::Global;
@@ -24,6 +24,7 @@ pub struct MemKeeper {
 impl Model for MemKeeper {
     ghost use Rattle.std.specs.Prelude.{IsTrue};
     ghost use Rattle.s3_rows.specs.Tables.{IsOrdered};
+    ghost use Rattle.s3_rows.specs.Ranges.{HasRanges};
     ghost use Rattle.mem_keeper.specs.Memory.{KeeperState};
     ghost use Rattle.mem_keeper.specs.Store.{tables_of};
     ghost use Rattle.mem_keeper.specs.Indexes.{Stand};
@@ -32,7 +33,7 @@ impl Model for MemKeeper {
 
     ghost view = { λ k. record { told = record { tables = tables_of k.store; commits = k.commits }; calls = k.calls; fails = k.fails; faults = k.faults } };
 
-    ghost invariant = { λ k. record { ordered : IsOrdered (tables_of k.store); standing : IsTrue k.indexes.stand → Stand k.indexes (tables_of k.store) } };
+    ghost invariant = { λ k. record { ordered : IsOrdered (tables_of k.store); ranges : HasRanges (tables_of k.store); standing : IsTrue k.indexes.stand → Stand k.indexes (tables_of k.store) } };
 }
 
 impl MemKeeper {
@@ -62,8 +63,10 @@ impl MemKeeper {
     pub fn of(alloc: Global, tables: Tables) -> Self
         ensures { result ≡ record { told = record { tables = tables; commits = 0 }; calls = 0; fails = []; faults = 0 } }
     {
+        let store = Store::of(tables);
+        tell_all_ranges(&store);
         MemKeeper {
-            store: Store::of(tables),
+            store,
             indexes: Indexes::new(alloc),
             commits: 0,
             calls: 0,

@@ -1,5 +1,5 @@
 //! Rows in the order of their keys.
-ghost use Rattle.std.specs.Prelude.{◌≡◌, ◌+◌, ◌<◌, ◌≤◌, length, IsTrue, IfOk, IfErr, IsOk, OnOk, OnErr, Option, option_map};
+ghost use Rattle.std.specs.Prelude.{◌≡◌, ◌+◌, ◌<◌, ◌≤◌, length, IsTrue, All, IfOk, IfErr, IsOk, OnOk, OnErr, Option, option_map};
 ghost use Rattle.std.specs.Vec.{vec_len, vec_capacity};
 ghost use Rattle.s3_rows.specs.Keyed.{Order, rises, put, without, row_at};
 ghost use Rattle.std.specs.List.Sorted.{IsSearchInRange};
@@ -29,11 +29,21 @@ pub(crate) fn row_of<R: Keyed>(rows: &[R], key: R::Key) -> Option<&R>
     }
 }
 
+/// Says that rows keep the ranges of their types.
+pub(crate) fn tell_ranges<R: Keyed>(rows: &[R])
+    ensures { All R.fits rows.now }
+{
+    for row in rows {
+        let _ = row.key();
+    }
+}
+
 /// Puts a row at its place, and gives the row of its key that stood there.
 pub(crate) fn replace_row<R: Keyed>(rows: &mut Vec<R>, row: R) -> Option<R>
     requires rises { IsTrue (rises (record { compare = R.Key.cmp; key = R.key }) rows.old.items) }
     requires room { vec_len rows.old < vec_capacity rows.old }
     ensures rows { rows.new.items ≡ put (record { compare = R.Key.cmp; key = R.key }) row rows.old.items }
+    ensures fits { R.fits row }
     ensures capacity { vec_capacity rows.old ≤ vec_capacity rows.new }
     ensures len { vec_len rows.new ≤ vec_len rows.old + 1 }
 {
@@ -51,6 +61,7 @@ pub(crate) fn put_row<R: Keyed>(rows: &mut Vec<R>, row: R)
     requires rises { IsTrue (rises (record { compare = R.Key.cmp; key = R.key }) rows.old.items) }
     requires room { vec_len rows.old < vec_capacity rows.old }
     ensures rows { rows.new.items ≡ put (record { compare = R.Key.cmp; key = R.key }) row rows.old.items }
+    ensures fits { R.fits row }
     ensures capacity { vec_capacity rows.old ≤ vec_capacity rows.new }
     ensures len { vec_len rows.new ≤ vec_len rows.old + 1 }
 {

@@ -1,11 +1,14 @@
 //! The tables as vectors of sorted rows.
 ghost use Rattle.std.specs.Prelude.{◌≡◌, ℕ, ◌+◌};
+ghost use Rattle.std.specs.Option.{ForSome};
+ghost use Rattle.s3_rows.specs.Rows.{IsParameters};
 ghost use Rattle.s3_rows.specs.Tables.{IsOrdered, no_tables};
 ghost use Rattle.s3_rows.specs.Batches.{after_change};
-ghost use Rattle.mem_keeper.specs.Store.{tables_of, HasRoom};
+ghost use Rattle.s3_rows.specs.Ranges.{HasRanges};
+ghost use Rattle.mem_keeper.specs.Store.{tables_of, HasRoom, IsFitChange};
 
 use crate::keyed::Keyed;
-use crate::sorted::{put_row, remove_row, replace_row, take_row};
+use crate::sorted::{put_row, remove_row, replace_row, take_row, tell_ranges};
 use s3_rows::{
     AttrRow, BlockRow, Change, ContentRow, InodeBlockRow, InodeRow, NameRow, ObjectRow, Params,
     SlotRow, Tables, TargetRow,
@@ -85,6 +88,31 @@ impl Store {
     }
 }
 
+// Says that parameters keep the ranges of their type.
+fn tell_params(params: &Option<Params>)
+    ensures { ForSome params.now IsParameters }
+{
+    if let Some(params) = params {
+        let _revision = params.revision;
+    }
+}
+
+/// Says that all rows keep the ranges of their types.
+pub(crate) fn tell_all_ranges(store: &Store)
+    ensures { HasRanges (tables_of store.now) }
+{
+    tell_params(&store.params);
+    tell_ranges(&store.inodes);
+    tell_ranges(&store.names);
+    tell_ranges(&store.contents);
+    tell_ranges(&store.inode_blocks);
+    tell_ranges(&store.blocks);
+    tell_ranges(&store.objects);
+    tell_ranges(&store.targets);
+    tell_ranges(&store.attrs);
+    tell_ranges(&store.slots);
+}
+
 /// Adds a row that a change took out to the others, where there is room.
 fn keep<R: Keyed>(gone: &mut Vec<R>, row: Option<R>) {
     if let Some(row) = row {
@@ -98,6 +126,7 @@ pub(crate) fn apply_change(store: &mut Store, gone: &mut Gone, change: Change)
     requires room { HasRoom 1 store.old }
     ensures tables { tables_of store.new ≡ after_change change (tables_of store.old) }
     ensures room { (n : ℕ) → HasRoom (n + 1) store.old → HasRoom n store.new }
+    ensures fits { IsFitChange change }
 {
     match change {
         Change::PutInode(row) => put_row(&mut store.inodes, row),
@@ -122,6 +151,9 @@ pub(crate) fn apply_change(store: &mut Store, gone: &mut Gone, change: Change)
         Change::DeleteAttr(inode, name_id) => remove_row(&mut store.attrs, (inode, name_id)),
         Change::PutSlot(row) => put_row(&mut store.slots, row),
         Change::DeleteSlot(slot) => remove_row(&mut store.slots, slot),
-        Change::SetParams(params) => store.params = Some(params),
+        Change::SetParams(params) => {
+            let _revision = params.revision;
+            store.params = Some(params)
+        }
     }
 }

@@ -8,7 +8,7 @@ pub loop-row-preserved : goal.loop-row-preserved
 loop-row-preserved g c =
     all_step (λ r. IsListed c.loop-row.index (g.R.Indexed.bytes r) (g.R.Keyed.key r)) (λ r. IsListed c.add.new.self (g.R.Indexed.bytes r) (g.R.Keyed.key r)) c.args.rows.now c.loop-row.row-index c.row-item.result c.loop-row-test.true
     (λ r h. c.add.ensures.kept _ _ h) c.loop-row.invariant c.row-item.is
-    (rw (← c.bytes.ensures, ← c.key.ensures) c.in_ok-add.ensures.added)
+    (rw (← c.bytes.ensures, ← c.key.ensures.key) c.in_ok-add.ensures.added)
 
 pub returns : goal.returns
 returns g c =
