@@ -1,6 +1,8 @@
 pub mod Batches
 pub mod Counts
+pub mod Index
 pub mod Keyed
+pub mod Latest
 pub mod Made
 pub mod Ranges
 pub mod Rows

@@ -1,12 +1,11 @@
-//! Changes of rows, and batches of them.
-ghost use Rattle.std.specs.Prelude.{◌≡◌, ◌++◌, [], ◌∷◌, length, OnOk, OnErr};
+//! Changes of rows.
+ghost use Rattle.std.specs.Prelude.{◌≡◌};
+ghost use Rattle.s3_rows.specs.Latest.{row_id};
 
 use crate::{
-    AttrRow, BlockRow, ContentRow, InodeBlockRow, InodeRow, NameRow, ObjectRow, Params, SlotRow,
-    TargetRow,
+    AttrRow, BlockRow, ContentRow, InodeBlockRow, InodeRow, NameRow, ObjectRow, Params, RowId,
+    SlotRow, TargetRow,
 };
-use std::alloc::{AllocError, Global};
-use std::marker::Model;
 
 /// A row that is put in place of the row of its key, or a key whose row is deleted. A key of two parts has them in the
 /// order of the row's fields.
@@ -33,50 +32,31 @@ pub enum Change {
     SetParams(Params),
 }
 
-/// Changes that are committed together, in order.
-#[derive(Clone, Debug, Drop)]
-pub struct Batch {
-    changes: Vec<Change>,
-}
-
-impl Model for Batch {
-    ghost use Rattle.std.specs.Prelude.{List};
-    ghost use Rattle.s3_rows.specs.declared.change.Change.{Change};
-
-    ghost Value = { List Change };
-
-    ghost view = { λ b. b.changes.items };
-}
-
-impl Batch {
-    /// No changes, which takes no memory.
-    pub fn new(alloc: Global) -> Self
-        ensures { result ≡ [] }
+impl Change {
+    /// The row that the change is about.
+    pub fn row_id(&self) -> RowId
+        ensures { result ≡ row_id self.now }
     {
-        Batch {
-            changes: Vec::new(alloc),
+        match self {
+            Change::PutInode(row) => RowId::Inode(row.id),
+            Change::DeleteInode(id) => RowId::Inode(*id),
+            Change::PutName(row) => RowId::Name(row.id),
+            Change::DeleteName(id) => RowId::Name(*id),
+            Change::PutContent(row) => RowId::Content(row.parent, row.name_id),
+            Change::DeleteContent(parent, name_id) => RowId::Content(*parent, *name_id),
+            Change::PutInodeBlock(row) => RowId::InodeBlock(row.inode, row.blockno),
+            Change::DeleteInodeBlock(inode, blockno) => RowId::InodeBlock(*inode, *blockno),
+            Change::PutBlock(row) => RowId::Block(row.id),
+            Change::DeleteBlock(id) => RowId::Block(*id),
+            Change::PutObject(row) => RowId::Object(row.id),
+            Change::DeleteObject(id) => RowId::Object(*id),
+            Change::PutTarget(row) => RowId::Target(row.inode),
+            Change::DeleteTarget(inode) => RowId::Target(*inode),
+            Change::PutAttr(row) => RowId::Attr(row.inode, row.name_id),
+            Change::DeleteAttr(inode, name_id) => RowId::Attr(*inode, *name_id),
+            Change::PutSlot(row) => RowId::Slot(row.slot),
+            Change::DeleteSlot(slot) => RowId::Slot(*slot),
+            Change::SetParams(_) => RowId::Params,
         }
-    }
-
-    /// Adds a change at the end.
-    pub fn push(&mut self, change: Change) -> Result<(), AllocError>
-        ensures ok { OnOk result (self.new ≡ self.old ++ change ∷ []) }
-        ensures err { OnErr result (self.new ≡ self.old) }
-    {
-        self.changes.push(change)?;
-        Ok(())
-    }
-
-    pub fn as_slice(&self) -> &[Change]
-        ensures { result.now ≡ self.now }
-    {
-        self.changes.as_slice()
-    }
-
-    /// The changes, to be moved out.
-    pub fn into_vec(self) -> Vec<Change>
-        ensures { result.items ≡ self }
-    {
-        self.changes
     }
 }

@@ -2,9 +2,11 @@
 #![tactic(auto)]
 
 mod all_tables;
+mod batch;
 mod block_rows;
 mod change;
 mod digest;
+mod index;
 mod inode_row;
 mod keeper;
 mod laws;
@@ -12,13 +14,15 @@ mod lists;
 mod made;
 mod name_rows;
 mod params;
+mod row_id;
 mod table_rows;
 #[cfg(test)]
 mod tests;
 
 pub use all_tables::Tables;
+pub use batch::Batch;
 pub use block_rows::{BlockRow, InodeBlockRow, ObjectRow, SlotRow};
-pub use change::{Batch, Change};
+pub use change::Change;
 pub use digest::Digest;
 pub use inode_row::InodeRow;
 pub use keeper::{Keeper, KeeperFault};
@@ -29,4 +33,5 @@ pub use lists::{
 pub use made::made_batch;
 pub use name_rows::{AttrRow, ContentRow, NameRow, TargetRow};
 pub use params::{Params, State};
+pub use row_id::RowId;
 pub use table_rows::{Row, RowKey, RowList, TableName};

@@ -1,5 +1,5 @@
 //! A call of each function, and rows at the ends of their ranges.
-use crate::{Batch, Change, ContentRow, Digest, InodeRow, NameRow, Spot};
+use crate::{Batch, BlockRow, Change, ContentRow, Digest, InodeRow, NameRow, RowId, Spot};
 use s3_base::{ByteList, Kind};
 use std::test::Fail;
 
@@ -18,6 +18,30 @@ fn batches(rt: HostRuntime) -> Result<(), Fail> {
     let copy = batch.clone()?;
     assert!(rt; matches!(copy.as_slice().first(), Some(Change::DeleteInode(7))));
     assert_eq!(rt; batch.into_vec().len(), 2);
+    Ok(())
+}
+
+#[test]
+fn last_changes(rt: HostRuntime) -> Result<(), Fail> {
+    let alloc = rt.alloc();
+    let mut batch = Batch::new(alloc);
+    batch.push(Change::PutName(NameRow {
+        id: 1,
+        refcount: 1,
+        name: ByteList::from_slice(alloc, b"name")?,
+    }))?;
+    batch.push(Change::PutBlock(BlockRow {
+        id: 2,
+        digest: Digest([7; 32]),
+        refcount: 1,
+        size: 9,
+        object: 3,
+    }))?;
+    batch.push(Change::DeleteName(1))?;
+    assert!(rt; matches!(batch.last(RowId::Name(1)), Some(Change::DeleteName(1))));
+    assert!(rt; batch.last(RowId::Inode(1)).is_none());
+    assert_eq!(rt; batch.last_named(b"name"), Some(1));
+    assert_eq!(rt; batch.last_hashed(&Digest([7; 32])), Some(2));
     Ok(())
 }
 
