@@ -1,11 +1,10 @@
 pub mod AttrKeys
 pub mod Held
 pub mod Idle
-pub mod NameRows
+pub mod LastChanges
 pub mod Named
 pub mod NamedRows
 pub mod Numbers
 pub mod Overlay
-pub mod Raised
 pub mod ShortPages
 pub mod Told

@@ -1,12 +1,11 @@
 -- What one more entry or attribute of a name makes of the tables, and what one less does.
 use Rattle.std.specs.Prelude.{◌≡◌, ℕ, ◌+◌, ◌-◌, ◌^◌, ◌==◌, List, [], ◌∷◌, ◌++◌, nat_lt, Option, None, Some, if◌then◌else◌}
-use Rattle.std.specs.Ordering.{is_eq}
 use Rattle.s3_rows.specs.declared.change.Change.{Change}
 use Rattle.s3_rows.specs.declared.change.Change.TheVariants as changes
 use Rattle.s3_rows.specs.Rows.{Name, Parameters}
 use Rattle.s3_rows.specs.Tables.{Tables}
 use Rattle.s3_rows.specs.Batches.{after_change}
-use Rattle.s3_rows.specs.Selections.{name_at, name_of_bytes, bytes_cmp}
+use Rattle.s3_rows.specs.Selections.{name_at, name_of_bytes}
 use Rattle.s3_rows.specs.Validity.{HasUniqueNames}
 
 -- the id of a name that is used once more, and the changes that say so
@@ -45,15 +44,6 @@ abbrev pub StaysUnique : List Change → Tables → Type 0
 StaysUnique [] t = HasUniqueNames t
 StaysUnique (c ∷ cs) t = HasUniqueNames t × StaysUnique cs (after_change c t)
 
--- a row, unless it has this id
-abbrev pub other_than : ℕ → Option Name → Option Name
-other_than id None = None
-other_than id (Some n) = if n.id == id then None else Some n
-
--- the row with given bytes, after a row is put
-abbrev pub after_put : Name → List ℕ → Option Name → Option Name
-after_put r bytes found = if is_eq (bytes_cmp r.name bytes) then Some r else other_than r.id found
-
 -- what a use of a name makes of a batch and answers; nothing is added where there is no use more
 abbrev pub IsRaised : Option Raised → List Change → Option ℕ → List Change → Type 0
 IsRaised None before answer now = (answer ≡ None) × (now ≡ before)
@@ -72,7 +62,3 @@ lowered_of (Some n) = lowered n
 -- one use less of a name in these tables; nothing where it has no row
 abbrev pub lowered_at : Tables → ℕ → List Change
 lowered_at t id = lowered_of (name_at t id)
-
--- the row of an id, after a row is put
-abbrev pub row_put : Name → ℕ → Option Name → Option Name
-row_put r id found = if r.id == id then Some r else found

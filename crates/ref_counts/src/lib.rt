@@ -7,6 +7,7 @@ mod attr;
 mod handles;
 mod lowered;
 mod names;
+mod pending;
 mod plan;
 mod removal;
 

@@ -1,65 +1,13 @@
 //! One use less of a name.
-ghost use Rattle.std.specs.Prelude.{◌≡◌, ◌++◌, ℕ, None, IfOk, OnOk, if◌then◌else◌};
+ghost use Rattle.std.specs.Prelude.{◌≡◌, ◌++◌, OnOk};
 ghost use Rattle.s3_base.specs.Faults.{HasCause};
-ghost use Rattle.s3_rows.specs.Tables.{Tables};
-ghost use Rattle.s3_rows.specs.Batches.{after_change, tables_after};
-ghost use Rattle.s3_rows.specs.Selections.{name_at};
+ghost use Rattle.s3_rows.specs.Batches.{tables_after};
 ghost use Rattle.s3_rows.specs.Told.{IfTold, has_failed};
-ghost use Rattle.ref_counts.specs.Names.{lowered, lowered_at, row_put};
+ghost use Rattle.ref_counts.specs.Names.{lowered, lowered_at};
 
+use crate::pending::pending_name;
 use s3_rows::{Batch, Change, Keeper, KeeperFault, NameRow};
 use std::alloc::AllocError;
-
-/// The row of a name after a row is put: `found` is the one before.
-fn row_after_put(
-    row: &NameRow,
-    id: u64,
-    found: Option<NameRow>,
-) -> Result<Option<NameRow>, AllocError>
-    ensures { IfOk result (λ r. r ≡ row_put row.now id found) }
-{
-    if row.id == id {
-        return Ok(Some(row.clone()?));
-    }
-    Ok(found)
-}
-
-/// The row, unless it is deleted.
-fn unless(found: Option<NameRow>, deleted: bool) -> Option<NameRow>
-    ensures { result ≡ (if deleted then None else found) }
-{
-    if deleted { None } else { found }
-}
-
-/// The row of a name after a change: `found` is the one before.
-fn row_after_change(
-    change: &Change,
-    id: u64,
-    found: Option<NameRow>,
-) -> Result<Option<NameRow>, AllocError>
-    ensures { IfOk result (λ r. (t : Tables) → found ≡ name_at t id → r ≡ name_at (after_change change.now t) id) }
-{
-    match change {
-        Change::PutName(row) => row_after_put(row, id, found),
-        Change::DeleteName(deleted) => Ok(unless(found, *deleted == id)),
-        _ => Ok(found),
-    }
-}
-
-/// The row of a name after changes in order: `found` is the one before.
-fn row_after(
-    changes: &[Change],
-    id: u64,
-    found: Option<NameRow>,
-) -> Result<Option<NameRow>, AllocError>
-    ensures { IfOk result (λ r. (t : Tables) → found ≡ name_at t id → r ≡ name_at (tables_after changes.now t) id) }
-{
-    let mut found = found;
-    for change in changes {
-        found = row_after_change(change, id, found)?;
-    }
-    Ok(found)
-}
 
 /// Takes one use of a name that is there away: the row goes with the last.
 fn lower(batch: &mut Batch, row: NameRow) -> Result<(), AllocError>
@@ -87,8 +35,7 @@ pub fn name_down<K: Keeper>(
     ensures same { K.told keeper.new ≡ K.told keeper.old }
     ensures cause { HasCause (K.faults keeper.old) (K.faults keeper.new) (has_failed result) }
 {
-    let known = keeper.name(name_id)?;
-    if let Some(row) = row_after(batch.as_slice(), name_id, known)? {
+    if let Some(row) = pending_name(keeper, batch, name_id)? {
         lower(batch, row)?;
     }
     Ok(())
