@@ -17,10 +17,10 @@ use Rattle.core_model.proofs.Shown.{get_or-resized}
 
 -- ---- pieces
 
-length-piece_of : (size n : ℕ) (bytes : List ℕ) → length (piece_of size bytes n) ≡ rest_of size (length bytes) n
+pub length-piece_of : (size n : ℕ) (bytes : List ℕ) → length (piece_of size bytes n) ≡ rest_of size (length bytes) n
 length-piece_of size n bytes = length-take size (drop (n * size) bytes) ∙ ap (min size) (length-drop (n * size) bytes)
 
-get_or-piece_of : (size n i : ℕ) (bytes : List ℕ) → i < size → get_or (piece_of size bytes n) i 0 ≡ get_or bytes (n * size + i) 0
+pub get_or-piece_of : (size n i : ℕ) (bytes : List ℕ) → i < size → get_or (piece_of size bytes n) i 0 ≡ get_or bytes (n * size + i) 0
 get_or-piece_of size n i bytes low = get_or-take size (drop (n * size) bytes) i 0 low ∙ get_or-drop (n * size) bytes i 0
 
 -- a file that has the same bytes where the piece after lies

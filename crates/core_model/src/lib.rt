@@ -10,6 +10,7 @@ mod worked;
 
 pub use bytes::{
     exact_spots_agree, shown_pieces_may_be_resized, spots_that_show_the_same_agree_alike,
+    tables_have_the_bytes_of_their_tree,
 };
 pub use changes::other_blocks_are_left;
 pub use forms::{
