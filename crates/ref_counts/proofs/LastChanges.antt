@@ -1,26 +1,28 @@
 -- What is read of tables after changes, by the last changes.
 use Rattle.std.proofs.Common.{◌≡◌, ℕ, List, [], ◌∷◌, Bool, true, false, cond, Option, None, Some, refl, sym, ap, ◌∙◌}
-use Rattle.std.specs.Prelude.{◌==◌, not, option_map, unwrap_or}
+use Rattle.std.specs.Prelude.{◌==◌, ◌&&◌, not, option_map, unwrap_or}
 use Rattle.std.specs.Option.{option_or, option_and_then}
-use Rattle.std.specs.Ordering.{is_eq}
+use Rattle.std.specs.declared.cmp.Ordering.{Ordering}
+use Rattle.std.specs.declared.cmp.Ordering.TheVariants.{Less, Equal, Greater}
+use Rattle.std.specs.Ordering.{is_eq, nat_cmp, ordering_then}
 use Rattle.std.specs.Cmp.{IsTotalOrder, nat_cmp_total}
 use Rattle.s3_rows.specs.declared.change.Change.{Change}
 use Rattle.s3_rows.specs.declared.change.Change.TheVariants as changes
 use Rattle.s3_rows.specs.declared.row_id.RowId.{RowId}
 use Rattle.s3_rows.specs.declared.row_id.RowId.TheVariants as ids
 use Rattle.s3_rows.specs.Rows.{Name}
-use Rattle.s3_rows.specs.Keyed.{Order, has_key, put, row_at, without}
-use Rattle.s3_rows.specs.Tables.{Tables, IsOrdered, by_name}
+use Rattle.s3_rows.specs.Keyed.{Order, has_key, pair_cmp, put, row_at, without}
+use Rattle.s3_rows.specs.Tables.{Tables, IsOrdered, by_name, by_spot, by_block, by_object}
 use Rattle.s3_rows.specs.Batches.{after_change, tables_after}
 use Rattle.s3_rows.specs.Latest.{about, last_change, id_named, last_named}
-use Rattle.s3_rows.specs.Selections.{name_at, name_of_bytes}
+use Rattle.s3_rows.specs.Selections.{name_at, name_of_bytes, inode_block_at, block_at, object_at}
 use Rattle.row_lemmas.proofs.Tests.{eqb_comm, is_eq-nat_cmp, false_from_not, find_passes, list_all_from_find}
-use Rattle.row_lemmas.proofs.Tables.{IsOrdered-after_change, IsOrdered-tables_after}
+use Rattle.row_lemmas.proofs.Tables.{IsOrdered-after_change, IsOrdered-tables_after, pair_cmp_total}
 use Rattle.row_lemmas.proofs.Keyed.Put.{row_at-put}
 use Rattle.row_lemmas.proofs.Keyed.RowAt.{row_at_from_find, row_at_passes}
 use Rattle.row_lemmas.proofs.Keyed.Without.{row_at-without}
 use Rattle.ref_counts.specs.Names.{StaysUnique}
-use Rattle.ref_counts.specs.Pending.{name_put, params_set, with_bytes}
+use Rattle.ref_counts.specs.Pending.{name_put, link_put, block_put, object_put, params_set, with_bytes}
 use Rattle.ref_counts.proofs.Named.{has_bytes, put_found, delete_found, unique_now}
 use Rattle.ref_counts.proofs.Overlay.{kept}
 
@@ -79,6 +81,58 @@ name_at-said id = read-said (λ t. name_at t id) (ids.Name id) name_put (name_at
 
 pub name_at-kept : (id : ℕ) (cs : List Change) (t : Tables) → last_change (ids.Name id) cs ≡ None → name_at t id ≡ name_at (tables_after cs t) id
 name_at-kept id = read-kept (λ t. name_at t id) (ids.Name id) name_put (name_at-after_change id)
+
+-- ---- links, blocks and objects by their keys
+
+is_eq-pair_cmp : (x y : ℕ × ℕ) → is_eq (pair_cmp x y) ≡ (x.0 == y.0 && x.1 == y.1)
+is_eq-pair_cmp x y = by_case (nat_cmp x.0 y.0) (is_eq-nat_cmp x.0 y.0)
+  where
+    by_case : (c : Ordering) → is_eq c ≡ (x.0 == y.0) → is_eq (ordering_then c (nat_cmp x.1 y.1)) ≡ (x.0 == y.0 && x.1 == y.1)
+    by_case Less is = ap (λ b. b && x.1 == y.1) is
+    by_case Equal is = is_eq-nat_cmp x.1 y.1 ∙ ap (λ b. b && x.1 == y.1) is
+    by_case Greater is = ap (λ b. b && x.1 == y.1) is
+
+both_back : (a b c d : ℕ) → (a == c && b == d) ≡ (c == a && d == b)
+both_back a b c d = (λ i. eqb_comm a c i && eqb_comm b d i)
+
+link-after_change : (inode blockno : ℕ) (c : Change) (t : Tables) → inode_block_at (after_change c t) inode blockno ≡ unwrap_or (option_map link_put (about (ids.InodeBlock inode blockno) c)) (inode_block_at t inode blockno)
+link-after_change inode blockno (changes.PutInodeBlock r) t =
+    row_at-put_said by_spot pair_cmp_total link_put (changes.PutInodeBlock r) (r.inode == inode && r.blockno == blockno) (inode, blockno) r t.inode_blocks
+    (is_eq-pair_cmp (inode, blockno) (r.inode, r.blockno) ∙ both_back inode blockno r.inode r.blockno) refl
+link-after_change inode blockno (changes.DeleteInodeBlock x n) t =
+    row_at-without_said by_spot pair_cmp_total link_put (changes.DeleteInodeBlock x n) (x == inode && n == blockno) (x, n) (inode, blockno) t.inode_blocks
+    (is_eq-pair_cmp (x, n) (inode, blockno)) refl
+link-after_change inode blockno _ t = refl
+
+block-after_change : (id : ℕ) (c : Change) (t : Tables) → block_at (after_change c t) id ≡ unwrap_or (option_map block_put (about (ids.Block id) c)) (block_at t id)
+block-after_change id (changes.PutBlock r) t =
+    row_at-put_said by_block nat_cmp_total block_put (changes.PutBlock r) (r.id == id) id r t.blocks (is_eq-nat_cmp id r.id ∙ eqb_comm id r.id) refl
+block-after_change id (changes.DeleteBlock x) t = row_at-without_said by_block nat_cmp_total block_put (changes.DeleteBlock x) (x == id) x id t.blocks (is_eq-nat_cmp x id) refl
+block-after_change id _ t = refl
+
+object-after_change : (id : ℕ) (c : Change) (t : Tables) → object_at (after_change c t) id ≡ unwrap_or (option_map object_put (about (ids.Object id) c)) (object_at t id)
+object-after_change id (changes.PutObject r) t =
+    row_at-put_said by_object nat_cmp_total object_put (changes.PutObject r) (r.id == id) id r t.objects (is_eq-nat_cmp id r.id ∙ eqb_comm id r.id) refl
+object-after_change id (changes.DeleteObject x) t = row_at-without_said by_object nat_cmp_total object_put (changes.DeleteObject x) (x == id) x id t.objects (is_eq-nat_cmp x id) refl
+object-after_change id _ t = refl
+
+pub link-said : (inode blockno : ℕ) (cs : List Change) (t : Tables) (c : Change) → last_change (ids.InodeBlock inode blockno) cs ≡ Some c → link_put c ≡ inode_block_at (tables_after cs t) inode blockno
+link-said inode blockno = read-said (λ t. inode_block_at t inode blockno) (ids.InodeBlock inode blockno) link_put (link-after_change inode blockno)
+
+pub link-kept : (inode blockno : ℕ) (cs : List Change) (t : Tables) → last_change (ids.InodeBlock inode blockno) cs ≡ None → inode_block_at t inode blockno ≡ inode_block_at (tables_after cs t) inode blockno
+link-kept inode blockno = read-kept (λ t. inode_block_at t inode blockno) (ids.InodeBlock inode blockno) link_put (link-after_change inode blockno)
+
+pub block-said : (id : ℕ) (cs : List Change) (t : Tables) (c : Change) → last_change (ids.Block id) cs ≡ Some c → block_put c ≡ block_at (tables_after cs t) id
+block-said id = read-said (λ t. block_at t id) (ids.Block id) block_put (block-after_change id)
+
+pub block-kept : (id : ℕ) (cs : List Change) (t : Tables) → last_change (ids.Block id) cs ≡ None → block_at t id ≡ block_at (tables_after cs t) id
+block-kept id = read-kept (λ t. block_at t id) (ids.Block id) block_put (block-after_change id)
+
+pub object-said : (id : ℕ) (cs : List Change) (t : Tables) (c : Change) → last_change (ids.Object id) cs ≡ Some c → object_put c ≡ object_at (tables_after cs t) id
+object-said id = read-said (λ t. object_at t id) (ids.Object id) object_put (object-after_change id)
+
+pub object-kept : (id : ℕ) (cs : List Change) (t : Tables) → last_change (ids.Object id) cs ≡ None → object_at t id ≡ object_at (tables_after cs t) id
+object-kept id = read-kept (λ t. object_at t id) (ids.Object id) object_put (object-after_change id)
 
 -- ---- parameters
 

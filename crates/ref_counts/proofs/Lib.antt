@@ -6,5 +6,6 @@ pub mod Named
 pub mod NamedRows
 pub mod Numbers
 pub mod Overlay
+mod Relinked
 pub mod ShortPages
 pub mod Told

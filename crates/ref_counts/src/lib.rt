@@ -5,6 +5,7 @@
 
 mod attr;
 mod handles;
+mod links;
 mod lowered;
 mod names;
 mod pending;
@@ -13,6 +14,7 @@ mod removal;
 
 pub use attr::attr_of;
 pub use handles::{Handle, Handles};
+pub use links::{count_block, relink};
 pub use lowered::name_down;
 pub use names::name_up;
 pub use plan::{Plan, answer};

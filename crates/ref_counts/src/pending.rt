@@ -5,13 +5,16 @@ ghost use Rattle.s3_base.specs.Faults.{HasCause};
 ghost use Rattle.s3_rows.specs.Tables.{IsOrdered};
 ghost use Rattle.s3_rows.specs.Batches.{tables_after};
 ghost use Rattle.s3_rows.specs.Latest.{last_named};
-ghost use Rattle.s3_rows.specs.Selections.{name_at, name_of_bytes};
+ghost use Rattle.s3_rows.specs.Selections.{name_at, name_of_bytes, inode_block_at, block_at, object_at};
 ghost use Rattle.s3_rows.specs.Told.{IfTold, has_failed};
 ghost use Rattle.ref_counts.specs.Names.{StaysUnique};
-ghost use Rattle.ref_counts.specs.Pending.{name_put, params_set, with_bytes};
+ghost use Rattle.ref_counts.specs.Pending.{name_put, link_put, block_put, object_put, params_set, with_bytes};
 
 use s3_base::ByteList;
-use s3_rows::{Batch, Change, Keeper, KeeperFault, NameRow, Params, RowId};
+use s3_rows::{
+    Batch, BlockRow, Change, InodeBlockRow, Keeper, KeeperFault, NameRow, ObjectRow, Params, RowId,
+    Spot,
+};
 use std::alloc::AllocError;
 
 /// The name that a change puts.
@@ -21,6 +24,36 @@ fn name_put(change: &Change) -> Result<Option<NameRow>, AllocError>
     match change {
         Change::PutName(row) => Ok(Some(row.clone()?)),
         _ => Ok(None),
+    }
+}
+
+/// The link of a place that a change puts.
+fn link_put(change: &Change) -> Option<InodeBlockRow>
+    ensures { result ≡ link_put change.now }
+{
+    match change {
+        Change::PutInodeBlock(row) => Some(*row),
+        _ => None,
+    }
+}
+
+/// The block that a change puts.
+fn block_put(change: &Change) -> Option<BlockRow>
+    ensures { result ≡ block_put change.now }
+{
+    match change {
+        Change::PutBlock(row) => Some(*row),
+        _ => None,
+    }
+}
+
+/// The object that a change puts.
+fn object_put(change: &Change) -> Option<ObjectRow>
+    ensures { result ≡ object_put change.now }
+{
+    match change {
+        Change::PutObject(row) => Some(*row),
+        _ => None,
     }
 }
 
@@ -111,5 +144,53 @@ pub(crate) fn pending_params<K: Keeper>(
     match batch.last(RowId::Params) {
         Some(change) => Ok(params_set(change)),
         None => keeper.params(),
+    }
+}
+
+/// The link of a place after the batch.
+pub(crate) fn pending_link<K: Keeper>(
+    keeper: &mut K,
+    batch: &Batch,
+    spot: Spot,
+) -> Result<Option<InodeBlockRow>, KeeperFault>
+    ensures row { IfOk result (λ r. IfTold (K.told keeper.old) (λ t. r ≡ inode_block_at (tables_after batch.now t) spot.inode spot.blockno)) }
+    ensures same { K.told keeper.new ≡ K.told keeper.old }
+    ensures cause { HasCause (K.faults keeper.old) (K.faults keeper.new) (has_failed result) }
+{
+    match batch.last(RowId::InodeBlock(spot.inode, spot.blockno)) {
+        Some(change) => Ok(link_put(change)),
+        None => keeper.block_at(spot.inode, spot.blockno),
+    }
+}
+
+/// The row of a block after the batch.
+pub(crate) fn pending_block<K: Keeper>(
+    keeper: &mut K,
+    batch: &Batch,
+    id: u64,
+) -> Result<Option<BlockRow>, KeeperFault>
+    ensures row { IfOk result (λ r. IfTold (K.told keeper.old) (λ t. r ≡ block_at (tables_after batch.now t) id)) }
+    ensures same { K.told keeper.new ≡ K.told keeper.old }
+    ensures cause { HasCause (K.faults keeper.old) (K.faults keeper.new) (has_failed result) }
+{
+    match batch.last(RowId::Block(id)) {
+        Some(change) => Ok(block_put(change)),
+        None => keeper.block(id),
+    }
+}
+
+/// The row of an object after the batch.
+pub(crate) fn pending_object<K: Keeper>(
+    keeper: &mut K,
+    batch: &Batch,
+    id: u64,
+) -> Result<Option<ObjectRow>, KeeperFault>
+    ensures row { IfOk result (λ r. IfTold (K.told keeper.old) (λ t. r ≡ object_at (tables_after batch.now t) id)) }
+    ensures same { K.told keeper.new ≡ K.told keeper.old }
+    ensures cause { HasCause (K.faults keeper.old) (K.faults keeper.new) (has_failed result) }
+{
+    match batch.last(RowId::Object(id)) {
+        Some(change) => Ok(object_put(change)),
+        None => keeper.object(id),
     }
 }
