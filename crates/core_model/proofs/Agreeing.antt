@@ -5,19 +5,18 @@ use Rattle.std.proofs.Math.Seq.{take-length}
 use Rattle.plain_tree.specs.Tree.{Tree}
 use Rattle.plain_tree.specs.Files.{file_at}
 use Rattle.block_math.specs.Blocks.{piece_of, trimmed}
-use Rattle.block_math.specs.Changes.{padded, resized}
 use Rattle.block_math.proofs.TrimmedLemmas.{padded-trimmed}
 use Rattle.s3_rows.specs.Tables.{Tables}
-use Rattle.tree_rows.specs.Contents.{Contents, bytes_of}
+use Rattle.tree_rows.specs.Contents.{Contents}
 use Rattle.tree_rows.specs.Spots.{form_at}
 use Rattle.core_model.specs.Bytes.{AgreesAt, Overlay, Shows, bytes_of_form, shown_at}
-use Rattle.core_model.specs.Exact.{IsExactAt, form_for, form_of_stored}
+use Rattle.core_model.specs.Exact.{IsExactAt, form_of_stored}
 use Rattle.core_model.specs.Occurring.{Knows}
 
 pub AgreesAt-same : (m : Contents) (t other : Tables) (over beside : Overlay) (whole after : Tree) (inode blockno copy copyno : ℕ)
     → shown_at m other beside copy copyno ≡ shown_at m t over inode blockno
     → ((bytes : List ℕ) → file_at after copy ≡ Some bytes → (own : List ℕ) × (file_at whole inode ≡ Some own)
-        × (piece_of after.block_size bytes copyno ≡ piece_of whole.block_size own blockno))
+    × (piece_of after.block_size bytes copyno ≡ piece_of whole.block_size own blockno))
     → AgreesAt m t over whole inode blockno → AgreesAt m other beside after copy copyno
 AgreesAt-same m t other over beside whole after inode blockno copy copyno shown pieces agrees bytes is =
     let own : (own : List ℕ) × (file_at whole inode ≡ Some own) × (piece_of after.block_size bytes copyno ≡ piece_of whole.block_size own blockno) = pieces bytes is in

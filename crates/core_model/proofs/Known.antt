@@ -1,11 +1,10 @@
 -- Contents that know blocks.
-use Rattle.std.proofs.Common.{◌≡◌, ℕ, List, [], ◌∷◌, Bool, true, false, cond, Option, Some, refl, sym, ap, ◌∙◌, subst, inl, inr}
+use Rattle.std.proofs.Common.{◌≡◌, ℕ, List, [], ◌∷◌, Bool, true, false, cond, Some, refl, sym, ap, ◌∙◌, inl, inr}
 use Rattle.std.specs.Prelude.{Contains, IsTrue}
 use Rattle.std.specs.Ordering.{is_eq, nat_cmp}
 use Rattle.std.specs.Cmp.{tied_itself}
 use Rattle.std.specs.Cmp.Lexicographic.{slice_cmp}
 use Rattle.std.specs.FinMap.{slice_cmp-IsAntisymmetric, nat_cmp-IsAntisymmetric}
-use Rattle.std.specs.Map.{lookup}
 use Rattle.std.specs.BTreeMap.{is_at}
 use Rattle.std.proofs.lemmas.Cmp.{nat_list_cmp_total}
 use Rattle.row_lemmas.proofs.Tests.{equal_from_is_eq}
@@ -39,10 +38,10 @@ module _ (digest_of : List ℕ → List ℕ) where
       by_test others false is =
           elim (Contains-cases a blocks b there) [
             | inl same ↦
-              let itself : is_at (slice_cmp nat_cmp (digest_of b)) (digest_of a) ≡ true =
-              ap (λ (x : List ℕ). is_eq (slice_cmp nat_cmp (digest_of b) (digest_of x))) same ∙ is_itself (digest_of b) in
-              let clash : true ≡ false = sym itself ∙ is in
-              absurd (cc clash)
+                let itself : is_at (slice_cmp nat_cmp (digest_of b)) (digest_of a) ≡ true =
+                ap (λ (x : List ℕ). is_eq (slice_cmp nat_cmp (digest_of b) (digest_of x))) same ∙ is_itself (digest_of b) in
+                let clash : true ≡ false = sym itself ∙ is in
+                absurd (cc clash)
             | inr later ↦ others later
           ]
 

@@ -1,17 +1,17 @@
 -- Blocks that a write or another length of a file leaves alone.
-use Rattle.std.proofs.Common.{◌≡◌, ◌≢◌, ◌⊎◌, ℕ, zero, suc, ◌+◌, ◌-◌, ◌*◌, ◌/◌, ◌%◌, ◌<◌, ◌≤◌, List, [], ◌∷◌, ◌++◌, Bool, true, false, cond, length, take, drop, min, get_or, refl, sym, ap, ◌∙◌, subst, inl, inr, arith, length-append, length-drop, eqb-true, ltb-true}
-use Rattle.std.specs.Prelude.{IsTrue, not, ◌==◌, ◌&&◌, ◌||◌, nat_lt, if◌then◌else◌}
+use Rattle.std.proofs.Common.{◌≡◌, ◌≢◌, ◌⊎◌, ℕ, zero, suc, ◌+◌, ◌-◌, ◌*◌, ◌/◌, ◌%◌, ◌<◌, ◌≤◌, List, [], ◌∷◌, ◌++◌, Bool, true, false, cond, length, take, drop, min, get_or, refl, sym, ap, ◌∙◌, inl, inr, arith, length-append, length-drop, eqb-true}
+use Rattle.std.specs.Prelude.{◌==◌, ◌&&◌, ◌||◌, nat_lt, if◌then◌else◌}
 use Rattle.std.specs.List.{filter, list_any}
 use Rattle.std.proofs.Math.Nat.{mul-le-mul_right, div-mul-le_self}
 use Rattle.std.proofs.lemmas.Bool.{cases_lt}
 use Rattle.std.proofs.lemmas.Bool.Decides.{nat_tests}
 use Rattle.std.proofs.lemmas.List.{get_or-drop, get_or-take, length-take, length-take-le, ext_get_or}
-use Rattle.block_math.specs.Blocks.{block_of, cut_at, piece_of}
+use Rattle.block_math.specs.Blocks.{piece_of}
 use Rattle.block_math.specs.Changes.{padded, resized, written_at}
 use Rattle.block_math.specs.Ranges.{piece_count, piece_start}
-use Rattle.block_math.proofs.FileLemmas.{block_of-written_elsewhere, get_or-block_of, get_or-padded}
-use Rattle.block_math.proofs.LengthLemmas.{le-padded, length-padded, length-resized}
-use Rattle.block_math.proofs.PieceLemmas.{begins_before_end, piece_start-whole}
+use Rattle.block_math.proofs.FileLemmas.{block_of-written_elsewhere, get_or-block_of}
+use Rattle.block_math.proofs.LengthLemmas.{le-padded, length-resized}
+use Rattle.block_math.proofs.PieceLemmas.{piece_start-whole}
 use Rattle.core_model.specs.Changes.{IsLeft, blocks_of_resize, blocks_of_write, numbers_from, rest_of, tail_before, tail_of, touched_blocks}
 use Rattle.core_model.proofs.Shown.{get_or-resized}
 
@@ -31,9 +31,9 @@ piece_same size n before after same =
     let is : len ≡ rest_of size (length after) n = length-piece_of size n after in
     ext_get_or 0 (piece_of size after n) (resized len (piece_of size before n)) (sym (length-resized len (piece_of size before n)))
     (λ i below.
-      let low : i < size = omega (arith, is) in
-      get_or-piece_of size n i after low ∙ same i low (omega (arith, is)) ∙ sym (get_or-piece_of size n i before low)
-      ∙ sym (get_or-resized len (piece_of size before n) i below))
+    let low : i < size = omega (arith, is) in
+    get_or-piece_of size n i after low ∙ same i low (omega (arith, is)) ∙ sym (get_or-piece_of size n i before low)
+    ∙ sym (get_or-resized len (piece_of size before n) i below))
 
 -- ---- tests on lists of numbers
 
@@ -88,7 +88,7 @@ tail_is_changed : (size len longer first n : ℕ) (stored : ℕ → ℕ) → (le
 tail_is_changed size len longer first n stored last some grown before tail =
     let P : List ℕ → Type 0 = λ xs. list_any (λ m. m == n) xs ≡ true in
     let has : tail_of size len stored ≡ n ∷ [] = ap (λ q. if nat_lt (rest_of size len q) (stored q) && nat_lt 0 len then q ∷ [] else []) last
-      ∙ ap (λ b. if b && nat_lt 0 len then n ∷ [] else []) (is_lt (rest_of size len n) (stored n) tail) ∙ ap (λ b. if b then n ∷ [] else []) (is_lt 0 len some) in
+    ∙ ap (λ b. if b && nat_lt 0 len then n ∷ [] else []) (is_lt (rest_of size len n) (stored n) tail) ∙ ap (λ b. if b then n ∷ [] else []) (is_lt 0 len some) in
     let kept : filter (λ m. nat_lt m first) (tail_of size len stored) ≡ n ∷ [] = ap (filter (λ m. nat_lt m first)) has ∙ ap (λ b. cond b (n ∷ []) []) (is_lt n first before) in
     let all : tail_before size len longer first stored ≡ n ∷ [] = ap (λ b. if b then filter (λ m. nat_lt m first) (tail_of size len stored) else []) (is_lt len longer grown) ∙ kept in
     ap (list_any (λ m. m == n)) all ∙ ap (λ b. b || false) (eqb_itself n)
@@ -133,8 +133,13 @@ module _ (size off n : ℕ) (new bytes : List ℕ) (stored : ℕ → ℕ) (some 
 
   length-written : length (written_at off new bytes) ≡ (off + length new) + (length bytes - (off + length new))
   length-written =
-      omega (arith, length-append (take off (padded off bytes) ++ new) (drop (off + length new) bytes), length-append (take off (padded off bytes)) new,
-        length-take-le off (padded off bytes) (le-padded off bytes), length-drop (off + length new) bytes)
+      omega (
+        arith,
+        length-append (take off (padded off bytes) ++ new) (drop (off + length new) bytes),
+        length-append (take off (padded off bytes)) new,
+        length-take-le off (padded off bytes) (le-padded off bytes),
+        length-drop (off + length new) bytes,
+      )
 
   -- the blocks of both files are the same there
   same : (i : ℕ) → i < size → n * size + i < length (written_at off new bytes) → get_or (written_at off new bytes) (n * size + i) 0 ≡ get_or bytes (n * size + i) 0
@@ -147,9 +152,9 @@ module _ (size off n : ℕ) (new bytes : List ℕ) (stored : ℕ → ℕ) (some 
       let first : n < off / size = elim elsewhere [
         | inl early ↦ early
         | inr late ↦ absurd (
-          let whole : length new ≤ piece_start off size (piece_count off (length new) size) = piece_start-whole off (length new) size some in
-          let begin : (off / size + piece_count off (length new) size) * size ≤ n * size = mul-le-mul_right size late in
-          omega (arith, whole, begin))
+            let whole : length new ≤ piece_start off size (piece_count off (length new) size) = piece_start-whole off (length new) size some in
+            let begin : (off / size + piece_count off (length new) size) * size ≤ n * size = mul-le-mul_right size late in
+            omega (arith, whole, begin))
       ] in
       let is : list_any (λ m. m == n) (tail_before size (length bytes) (off + length new) (off / size) stored) ≡ true =
       tail_is_changed size (length bytes) (off + length new) (off / size) n stored (last_block size (length bytes) n some inside (omega arith)) (omega arith) grown first tail in
@@ -199,10 +204,10 @@ module _ (size longer n : ℕ) (bytes : List ℕ) (stored : ℕ → ℕ) (some :
         | inr late ↦ (elim (cases_lt q n) [
           | inl more ↦ absurd (let next : (q + 1) * size ≤ n * size = mul-le-mul_right size (omega arith) in omega arith)
           | inr most ↦ absurd (
-            let own : q ≡ n = omega arith in
-            let begin : q * size ≡ n * size = ap (λ x. x * size) own in
-            let rest : longer % size ≢ 0 = λ zero_rest. omega (arith, within_block longer size some, zero_rest, begin) in
-            both.1 rest own)
+              let own : q ≡ n = omega arith in
+              let begin : q * size ≡ n * size = ap (λ x. x * size) own in
+              let rest : longer % size ≢ 0 = λ zero_rest. omega (arith, within_block longer size some, zero_rest, begin) in
+              both.1 rest own)
         ])
       ] in
       let is : list_any (λ m. m == n) (tail_before size (length bytes) longer q stored) ≡ true =

@@ -1,8 +1,10 @@
 pub mod Agreeing
 pub mod Elements
-pub mod LinkedForms
+pub mod HeldBlocks
 pub mod Known
 pub mod Left
+pub mod LinkedForms
 pub mod OwnTree
+pub mod Prepared
 pub mod Runs
 pub mod Shown

@@ -2,14 +2,14 @@
 use Rattle.std.proofs.Common.{◌≡◌, ℕ, List, Bool, true, false, cond, Option, None, Some, refl, sym, ap, ◌∙◌, eqb-true}
 use Rattle.std.specs.Prelude.{IsTrue, not, ◌==◌, option_and_then, option_map}
 use Rattle.std.specs.List.{list_all}
-use Rattle.std.specs.Ordering.{is_eq, nat_cmp}
+use Rattle.std.specs.Ordering.{is_eq}
 use Rattle.std.proofs.lemmas.Cmp.{nat_cmp_total}
 use Rattle.s3_rows.specs.declared.change.Change.TheVariants as changes
 use Rattle.s3_rows.specs.Rows.{InodeBlock, Block}
 use Rattle.s3_rows.specs.Keyed.{has_key, pair_cmp, put, row_at, without}
 use Rattle.s3_rows.specs.Tables.{Tables, by_spot, by_block}
 use Rattle.s3_rows.specs.Batches.{after_change}
-use Rattle.s3_rows.specs.Selections.{inode_block_at, block_at}
+use Rattle.s3_rows.specs.Selections.{block_at}
 use Rattle.row_lemmas.proofs.Tests.{eqb_comm, false_from_not, is_eq-nat_cmp}
 use Rattle.row_lemmas.proofs.Tables.{pair_cmp_total}
 use Rattle.row_lemmas.proofs.Keyed.Put.{row_at-put, row_at-put_same, row_at-put_other}
@@ -75,7 +75,7 @@ module _ (t : Tables) where
   form_at-without_block id inode blockno none =
       by_links t.inode_blocks t.blocks (without by_block id t.blocks) inode blockno
       (λ l there. ap (option_map form_of_row) (row_at-without_other by_block nat_cmp_total id l.block t.blocks
-        (is_eq-nat_cmp id l.block ∙ eqb_comm id l.block ∙ unnamed id inode blockno l none there)))
+      (is_eq-nat_cmp id l.block ∙ eqb_comm id l.block ∙ unnamed id inode blockno l none there)))
 
   pub form_at-put_same_form : (r : Block) (inode blockno : ℕ) → option_map form_of_row (block_at t r.id) ≡ Some (form_of_row r)
       → form_at (after_change (changes.PutBlock r) t) inode blockno ≡ form_at t inode blockno

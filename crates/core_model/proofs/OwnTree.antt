@@ -1,6 +1,6 @@
 -- Tables whose digests the contents have show the bytes of the tree that they are.
-use Rattle.std.proofs.Common.{◌≡◌, ◌⊎◌, ℕ, zero, suc, ◌+◌, ◌-◌, ◌*◌, ◌/◌, ◌<◌, ◌≤◌, List, [], ◌∷◌, ◌++◌, Bool, true, false, cond, length, take, drop, map, get_or, Option, None, Some, refl, sym, ap, ◌∙◌, subst, inl, inr, arith, leb-true}
-use Rattle.std.specs.Prelude.{IsTrue, nat_le, find, option_map, option_and_then, unwrap_or}
+use Rattle.std.proofs.Common.{◌≡◌, ℕ, zero, suc, ◌+◌, ◌-◌, ◌*◌, ◌/◌, ◌<◌, ◌≤◌, List, [], ◌∷◌, ◌++◌, Bool, true, false, cond, length, take, map, get_or, Option, None, Some, refl, sym, ap, ◌∙◌, subst, inl, inr, arith, leb-true}
+use Rattle.std.specs.Prelude.{IsTrue, nat_le, option_map, option_and_then, unwrap_or}
 use Rattle.std.specs.List.{list_all, AllByRecursion}
 use Rattle.std.specs.Option.{IsSomeAnd}
 use Rattle.std.specs.Map.{lookup}
@@ -14,7 +14,7 @@ use Rattle.std.proofs.lemmas.Bool.{cases_lt}
 use Rattle.std.proofs.lemmas.List.{get_or-take, length-take, ext_get_or}
 use Rattle.s3_base.specs.declared.node_kind.Kind.{Kind}
 use Rattle.s3_base.specs.declared.node_kind.Kind.TheVariants as kinds
-use Rattle.plain_tree.specs.Tree.{Content, Directory, Link, Node, Regular, Tree}
+use Rattle.plain_tree.specs.Tree.{Directory, Link, Node, Regular}
 use Rattle.plain_tree.specs.Files as files
 use Rattle.plain_tree.specs.Files.{file_at}
 use Rattle.block_math.specs.Blocks.{piece_of}
@@ -22,8 +22,8 @@ use Rattle.block_math.specs.Changes.{padded, resized}
 use Rattle.block_math.proofs.FileLemmas.{get_or-padded}
 use Rattle.block_math.proofs.LengthLemmas.{length-padded, length-resized}
 use Rattle.s3_rows.specs.Rows.{Inode, InodeBlock, Block, Parameters}
-use Rattle.s3_rows.specs.Keyed.{has_key, row_at}
-use Rattle.s3_rows.specs.Tables.{Tables, by_block, by_inode, by_spot}
+use Rattle.s3_rows.specs.Keyed.{row_at}
+use Rattle.s3_rows.specs.Tables.{Tables, by_block, by_inode}
 use Rattle.s3_rows.specs.Selections.{inode_at, block_at, inode_block_at}
 use Rattle.row_lemmas.proofs.Keyed.RowAt.{row_at_meets, row_at_passes}
 use Rattle.tree_rows.specs.Contents.{Contents, HaveBytes, blocks_from, bytes_in, bytes_of, node_in, stored_at, tree_of}
@@ -66,14 +66,14 @@ module _ (m : Contents) (t : Tables) (size inode : ℕ) (short : (n : ℕ) → l
       let within : length piece ≤ size = omega (arith, length-piece_of size n (take len blocks)) in
       ext_get_or 0 (resized (length piece) (stored_at m t inode n)) piece (length-resized (length piece) (stored_at m t inode n))
       (λ i below.
-        let low : i < length piece = omega (arith, length-resized (length piece) (stored_at m t inode n)) in
-        let inside : n * size + i < len = omega arith in
-        let there : n < count = before_end n i count len inside reach in
-        get_or-resized (length piece) (stored_at m t inode n) i low
-        ∙ ap (λ k. get_or (stored_at m t inode k) i 0) (omega arith)
-        ∙ sym (get_or-blocks_from count n 0 i there (omega arith))
-        ∙ sym (get_or-take len blocks (n * size + i) 0 inside)
-        ∙ sym (get_or-piece_of size n i (take len blocks) (omega arith)))
+      let low : i < length piece = omega (arith, length-resized (length piece) (stored_at m t inode n)) in
+      let inside : n * size + i < len = omega arith in
+      let there : n < count = before_end n i count len inside reach in
+      get_or-resized (length piece) (stored_at m t inode n) i low
+      ∙ ap (λ k. get_or (stored_at m t inode k) i 0) (omega arith)
+      ∙ sym (get_or-blocks_from count n 0 i there (omega arith))
+      ∙ sym (get_or-take len blocks (n * size + i) 0 inside)
+      ∙ sym (get_or-piece_of size n i (take len blocks) (omega arith)))
     where
       before_end : (n i count len : ℕ) → n * size + i < len → len ≤ count * size → n < count
       before_end n i count len inside reach = elim (cases_lt n count) [
@@ -99,9 +99,10 @@ module _ (m : Contents) (t : Tables) (size : ℕ) (fits : HaveBytes m t.blocks) 
           (refl, omega (arith, long, (each b refl).1))
 
   each_block : (id : ℕ) (b : Block) → block_at t id ≡ Some b → (option_map length (bytes_of m b.digest.0) ≡ Some b.size) × (b.size ≤ size)
-  each_block id b there =
-      (row_at_meets by_block (λ (r : Block). option_map length (bytes_of m r.digest.0) ≡ Some r.size) id t.blocks b (by_recursion t.blocks fits) there,
-        leb-true b.size size (row_at_passes by_block (λ (r : Block). nat_le r.size size) id t.blocks b small there))
+  each_block id b there = (
+    row_at_meets by_block (λ (r : Block). option_map length (bytes_of m r.digest.0) ≡ Some r.size) id t.blocks b (by_recursion t.blocks fits) there,
+    leb-true b.size size (row_at_passes by_block (λ (r : Block). nat_le r.size size) id t.blocks b small there),
+  )
     where
       by_recursion : (rows : List Block) → HaveBytes m rows → AllByRecursion (λ (r : Block). option_map length (bytes_of m r.digest.0) ≡ Some r.size) rows
       by_recursion [] all = tt

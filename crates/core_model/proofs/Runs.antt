@@ -1,5 +1,5 @@
 -- What occurs along runs.
-use Rattle.std.proofs.Common.{◌≡◌, ℕ, List, [], ◌∷◌, ◌++◌, subst, inl, inr}
+use Rattle.std.proofs.Common.{ℕ, List, [], ◌∷◌, ◌++◌, subst, inl, inr}
 use Rattle.std.specs.Prelude.{Contains}
 use Rattle.std.specs.List.{flat_map}
 use Rattle.std.proofs.lemmas.List.Elements.{Contains-append_left, Contains-append_right, Contains-append_cases}
@@ -38,7 +38,7 @@ occurring-append m t run more b there =
     elim (Contains-append_cases (values_of m) (flat_map blocks_in (trees_along t run)) b there) [
       | inl own ↦ Contains-append_left (values_of m) (flat_map blocks_in (trees_along t (run ++ more))) b own
       | inr made ↦ Contains-append_right (values_of m) (flat_map blocks_in (trees_along t (run ++ more))) b
-        (Contains-flat_map_more blocks_in (trees_along t run) (trees_along t (run ++ more)) b (trees_along-append t run more) made)
+          (Contains-flat_map_more blocks_in (trees_along t run) (trees_along t (run ++ more)) b (trees_along-append t run more) made)
     ]
 
 of_tree : (m : Contents) (t : Tree) (run : List Answered) (x : Tree) (b : List ℕ) → Contains (trees_along t run) x → Contains (blocks_in x) b → Contains (occurring m t run) b

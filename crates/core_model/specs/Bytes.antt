@@ -43,4 +43,4 @@ pub record HasBytes (m : Contents) (t : Tables) (over : Overlay) (whole : Tree) 
   pub agrees : (inode blockno : ℕ) → AgreesAt m t over whole inode blockno
   -- what is not linked yet is the whole block, zeros past the end of the file included
   pub exact : (inode blockno : ℕ) (shown bytes : List ℕ) → over inode blockno ≡ Some shown → file_at whole inode ≡ Some bytes
-    → shown ≡ block_of whole.block_size bytes blockno
+      → shown ≡ block_of whole.block_size bytes blockno

@@ -1,5 +1,5 @@
 -- The blocks that occur along a run of answered calls, and contents that know them.
-use Rattle.std.specs.Prelude.{◌≡◌, ℕ, List, [], ◌∷◌, ◌++◌, Bool, true, false, map, Contains, Option, Some}
+use Rattle.std.specs.Prelude.{◌≡◌, ℕ, List, [], ◌∷◌, ◌++◌, Bool, true, false, map, Contains, Some}
 use Rattle.std.specs.List.{filter, flat_map}
 use Rattle.plain_tree.specs.Tree.{Tree, Content, Regular, Directory, Link}
 use Rattle.plain_tree.specs.Calls.{Answered, trees_along}

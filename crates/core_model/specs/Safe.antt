@@ -1,7 +1,8 @@
 -- What the object store holds of the blocks that rows name, and tables before a call puts objects there.
-use Rattle.std.specs.Prelude.{◌≡◌, ℕ, ◌≤◌, ◌<◌, List, [], ◌∷◌, ◌++◌, All, Option, None, Some}
+use Rattle.std.specs.Prelude.{◌≡◌, ℕ, zero, suc, ◌+◌, List, [], ◌∷◌, Option, None, Some}
 use Rattle.s3_rows.specs.Rows.{Block, Object, Parameters}
-use Rattle.s3_rows.specs.Tables.{Tables}
+use Rattle.s3_rows.specs.Keyed.{put}
+use Rattle.s3_rows.specs.Tables.{Tables, by_object}
 use Rattle.tree_rows.specs.Contents.{Contents, bytes_of}
 
 -- The bytes under the key of an object, by its number. Whether they have the digest is asked where rows name the object.
@@ -13,23 +14,23 @@ abbrev pub HaveHeld : Contents → Held → List Block → Type 0
 HaveHeld m held [] = Unit {0}
 HaveHeld m held (r ∷ rs) = (held r.object ≡ bytes_of m r.digest.0) × HaveHeld m held rs
 
--- an object of a new number that no block has yet, and that is not uploaded
-pub record IsNewObject (next after : ℕ) (r : Object) : Type 0 where
-  pub fresh : next ≤ r.id
-  pub drawn : r.id < after
-  pub unused : r.refcount ≡ 0
-  pub unsized : r.size ≡ None
+-- ---- objects that are drawn before they are put
 
--- the parameters with another next number of objects
-abbrev pub with_next_object : ℕ → Parameters → Parameters
-with_next_object next p = record p { next_object = next }
+-- an object that no block has yet, and that is not uploaded
+abbrev pub new_object : ℕ → Object
+new_object id = record { id = id; refcount = 0; size = None }
 
--- Objects of new numbers are added, and the next number has risen above them, or not at all. All else is as before.
-pub record IsPrepared (before after : Tables) : Type 0 where
-  pub params : Parameters
-  pub is_made : before.params ≡ Some params
-  pub next : ℕ
-  pub later : params.next_object ≤ next
-  pub more : List Object
-  pub fresh : All (IsNewObject params.next_object next) more
-  pub tables : after ≡ record before { params = Some (with_next_object next params); objects = before.objects ++ more }
+-- one object more, under the next number
+abbrev pub with_new_object : Option Parameters → Tables → Tables
+with_new_object None t = t
+with_new_object (Some p) t =
+    record t { params = Some (record p { next_object = p.next_object + 1 }); objects = put by_object (new_object p.next_object) t.objects }
+
+-- so many objects more
+abbrev pub with_new_objects : ℕ → Tables → Tables
+with_new_objects zero t = t
+with_new_objects (suc count) t = with_new_objects count (with_new_object t.params t)
+
+-- Some objects were drawn, or none. All else is as before.
+abbrev pub IsPrepared : Tables → Tables → Type 0
+IsPrepared before after = (count : ℕ) × (after ≡ with_new_objects count before)

@@ -1,6 +1,6 @@
 -- Trees, contents and a digest that are small enough to work by hand.
 use Rattle.std.specs.Prelude.{ℕ, List, [], ◌∷◌, length, sum}
-use Rattle.plain_tree.specs.Tree.{Tree, Node, Regular, made_tree}
+use Rattle.plain_tree.specs.Tree.{Tree, Node, Regular}
 use Rattle.std.specs.Prelude.{false}
 
 -- a digest under which `1, 3` and `2, 2` collide

@@ -17,7 +17,7 @@ pub fn spots_that_show_the_same_agree_alike()
     ensures { (m : Contents) (t other : Tables) (over beside : Overlay) (whole after : Tree) (inode blockno copy copyno : ℕ)
         → shown_at m other beside copy copyno ≡ shown_at m t over inode blockno
         → ((bytes : List ℕ) → file_at after copy ≡ Some bytes → (own : List ℕ) × (file_at whole inode ≡ Some own)
-            × (piece_of after.block_size bytes copyno ≡ piece_of whole.block_size own blockno))
+        × (piece_of after.block_size bytes copyno ≡ piece_of whole.block_size own blockno))
         → AgreesAt m t over whole inode blockno → AgreesAt m other beside after copy copyno }
 {}
 

@@ -6,6 +6,7 @@ mod bytes;
 mod changes;
 mod forms;
 mod occurring;
+mod safe;
 mod worked;
 
 pub use bytes::{
@@ -13,10 +14,9 @@ pub use bytes::{
     tables_have_the_bytes_of_their_tree,
 };
 pub use changes::other_blocks_are_left;
-pub use forms::{
-    forms_are_links_and_blocks, forms_follow_links, unnamed_blocks_leave_forms,
-};
+pub use forms::{forms_are_links_and_blocks, forms_follow_links, unnamed_blocks_leave_forms};
 pub use occurring::{
     contents_of_blocks_know_them, longer_runs_have_more_blocks, trees_on_the_way_occur,
 };
+pub use safe::{held_blocks_rest_on_their_objects, prepared_tables_stay_valid};
 pub use worked::blocks_worked_by_hand;
