@@ -2,12 +2,14 @@
 #![tactic(auto)]
 
 mod create;
+mod emptiness;
 mod entries;
 mod link;
 mod lookup;
 mod mkdir;
 pub mod new_entry;
 mod old_entry;
+mod old_link;
 pub mod places;
 mod plans;
 mod readdir;

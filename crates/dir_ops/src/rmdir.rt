@@ -1,5 +1,5 @@
 //! The plan of an empty directory that goes.
-ghost use Rattle.std.specs.Prelude.{◌≡◌, ◌<◌, ◌^◌, ◌++◌, ℕ, List, [], ◌∷◌, length, nat_lt, Some, Ok, IfOk};
+ghost use Rattle.std.specs.Prelude.{◌≡◌, ◌<◌, ◌^◌, ◌++◌, ℕ, List, [], ◌∷◌, Some, Ok, IfOk};
 ghost use Rattle.s3_base.specs.Errors.{enotempty};
 ghost use Rattle.s3_base.specs.Faults.{HasCause};
 ghost use Rattle.op_frames.specs.declared.operation.Op.TheVariants as ops;
@@ -9,7 +9,7 @@ ghost use Rattle.plain_tree.specs.Checks.{fails_with, first_failure};
 ghost use Rattle.s3_rows.specs.Rows.{Name};
 ghost use Rattle.s3_rows.specs.Tables.{IsOrdered};
 ghost use Rattle.s3_rows.specs.Batches.{tables_after};
-ghost use Rattle.s3_rows.specs.Selections.{name_at, entries_listed};
+ghost use Rattle.s3_rows.specs.Selections.{name_at};
 ghost use Rattle.s3_rows.specs.Told.{IfTold, has_failed};
 ghost use Rattle.s3_rows.specs.Validity.{IsValid, HasUniqueNames};
 ghost use Rattle.tree_rows.specs.Shapes.{Represents};
@@ -20,6 +20,7 @@ ghost use Rattle.ref_counts.specs.Removals.{removal};
 ghost use Rattle.row_steps.specs.RowChanges.{dropping};
 ghost use Rattle.dir_ops.specs.OldEntries.{IsOldEntry};
 
+use crate::emptiness::{check_empty, has_entries};
 use crate::new_entry::with_reply;
 use crate::old_entry::{OldEntry, drop_entry, find_old_entry};
 use op_checks::{check_directory, check_unlocked};
@@ -29,30 +30,6 @@ use row_steps::old_directories_are_steps;
 use s3_base::{ByteList, Errno};
 use s3_rows::{Batch, InodeRow, Keeper, KeeperFault};
 use std::alloc::Global;
-
-/// A directory has an entry: a page from the empty name on, which no entry has, is not empty.
-fn has_entries<K: Keeper>(
-    alloc: Global,
-    keeper: &mut K,
-    directory: &InodeRow,
-) -> Result<bool, KeeperFault>
-    ensures full { IfOk result (λ full. IfTold (K.told keeper.old) (λ t. full ≡ nat_lt 0 (length (entries_listed t directory.now.id [] 1)))) }
-    ensures same { K.told keeper.new ≡ K.told keeper.old }
-    ensures cause { HasCause (K.faults keeper.old) (K.faults keeper.new) (has_failed result) }
-{
-    let page = keeper.entries(directory.id, &ByteList::new(alloc), 1)?;
-    Ok(page.len() > 0)
-}
-
-/// ENOTEMPTY where a directory has entries.
-fn check_empty(full: bool) -> Result<(), Errno>
-    ensures { Checks result (fails_with enotempty full) }
-{
-    if full {
-        return Err(Errno::ENOTEMPTY);
-    }
-    Ok(())
-}
 
 /// The checks of an inode that is to be an empty directory.
 fn check_old_directory(child: &InodeRow, full: bool) -> Result<(), Errno>

@@ -1,35 +1,33 @@
 //! The plan of an entry of a file that goes.
-ghost use Rattle.std.specs.Prelude.{◌≡◌, ◌-◌, ◌<◌, ◌^◌, ◌++◌, ◌||◌, ℕ, List, [], ◌∷◌, nat_lt, if◌then◌else◌, Some, Ok, IfOk, OnOk};
+ghost use Rattle.std.specs.Prelude.{◌≡◌, ◌<◌, ◌^◌, ℕ, List, [], ◌∷◌, Some, Ok, IfOk};
 ghost use Rattle.s3_base.specs.Errors.{eisdir};
 ghost use Rattle.s3_base.specs.Faults.{HasCause};
 ghost use Rattle.op_frames.specs.declared.operation.Op.TheVariants as ops;
 ghost use Rattle.plain_tree.specs.Tree.{Tree};
 ghost use Rattle.plain_tree.specs.WellFormed.{IsWellFormed};
 ghost use Rattle.plain_tree.specs.Checks.{first_failure};
-ghost use Rattle.s3_rows.specs.declared.change.Change.TheVariants as changes;
 ghost use Rattle.s3_rows.specs.Rows.{Name};
 ghost use Rattle.s3_rows.specs.Tables.{IsOrdered};
-ghost use Rattle.s3_rows.specs.Batches.{tables_after};
 ghost use Rattle.s3_rows.specs.Selections.{name_at};
 ghost use Rattle.s3_rows.specs.Told.{IfTold, has_failed};
 ghost use Rattle.s3_rows.specs.Validity.{IsValid, HasUniqueNames};
 ghost use Rattle.tree_rows.specs.Shapes.{Represents};
 ghost use Rattle.op_checks.specs.Checks.{Checks};
 ghost use Rattle.op_checks.specs.Rows.{no_directory_row_check, lock_row_check};
-ghost use Rattle.ref_counts.specs.Handles.{HasHandles, is_held};
+ghost use Rattle.ref_counts.specs.Handles.{HasHandles};
 ghost use Rattle.ref_counts.specs.Plans.{IsPlanOf, HasFitReply};
-ghost use Rattle.ref_counts.specs.Removals.{removal};
-ghost use Rattle.row_steps.specs.RowChanges.{counted_row, unlinking};
+ghost use Rattle.row_steps.specs.RowChanges.{unlinking};
 ghost use Rattle.dir_ops.specs.OldEntries.{IsOldEntry};
 
 use crate::new_entry::with_reply;
 use crate::old_entry::{OldEntry, drop_entry, find_old_entry};
+use crate::old_link::{drop_link, is_kept};
 use op_checks::{check_no_directory, check_unlocked};
 use op_frames::Reply;
-use ref_counts::{Handles, Plan, drop_file};
+use ref_counts::{Handles, Plan};
 use row_steps::old_links_are_steps;
 use s3_base::{ByteList, Errno};
-use s3_rows::{Batch, Change, InodeRow, Keeper, KeeperFault};
+use s3_rows::{Batch, InodeRow, Keeper, KeeperFault};
 use std::alloc::Global;
 
 /// The checks of an inode that is to be no directory.
@@ -38,46 +36,6 @@ fn check_old_file(child: &InodeRow) -> Result<(), Errno>
 {
     check_no_directory(child, Errno::EISDIR)?;
     check_unlocked(child)
-}
-
-/// Another entry names the file, or a handle is open on it.
-fn is_kept(file: &InodeRow, handles: &Handles) -> bool
-    ensures { result ≡ (nat_lt 1 file.now.refcount || is_held handles.now file.now.id) }
-{
-    file.refcount > 1 || handles.is_held(file.id)
-}
-
-/// The row with one link less.
-fn counted_once_less(file: &InodeRow, now: u64) -> InodeRow
-    requires { now < 2 ^ 62 }
-    ensures { result ≡ counted_row (file.now.refcount - 1) now file.now }
-{
-    InodeRow {
-        refcount: file.refcount.saturating_sub(1),
-        ctime: now,
-        ..*file
-    }
-}
-
-/// Adds the change by which a file counts one link less where it is kept, or else those by which it goes.
-fn drop_link<K: Keeper>(
-    keeper: &mut K,
-    batch: &mut Batch,
-    kept: bool,
-    file: &InodeRow,
-    now: u64,
-) -> Result<(), KeeperFault>
-    requires { now < 2 ^ 62 }
-    ensures dropped { OnOk result (IfTold (K.told keeper.old) (λ t. IsOrdered t → batch.new ≡ batch.old ++ (if kept
-        then changes.PutInode (counted_row (file.now.refcount - 1) now file.now) ∷ [] else removal t file.now.id (tables_after batch.old t)))) }
-    ensures same { K.told keeper.new ≡ K.told keeper.old }
-    ensures cause { HasCause (K.faults keeper.old) (K.faults keeper.new) (has_failed result) }
-{
-    if kept {
-        batch.push(Change::PutInode(counted_once_less(file, now)))?;
-        return Ok(());
-    }
-    drop_file(keeper, batch, file.id)
 }
 
 /// The batch by which an entry goes, with a link of its file or with the file, at the time `now`.
