@@ -51,6 +51,10 @@ const SHAPES: &[(&str, Shape)] = &[
     ("create", (8, ENTRY)),
     ("unlink", (9, INODE_AND_NAME)),
     ("rmdir", (10, INODE_AND_NAME)),
+    (
+        "rename",
+        (11, &[Field::Long, Field::Name, Field::Long, Field::Name]),
+    ),
     ("link", (12, &[Field::Long, Field::Long, Field::Name])),
     (
         "symlink",

@@ -1,9 +1,11 @@
+pub mod Above
 pub mod ChildRow
 pub mod DirectoryRows
 pub mod Entering
 pub mod EntryRows
 pub mod FirstFailures
 pub mod Linked
+pub mod Moving
 pub mod NewDirectory
 pub mod NewEntry
 pub mod NewFile
@@ -11,3 +13,4 @@ pub mod OldDirectory
 pub mod OldEntries
 pub mod OldFile
 pub mod Placed
+pub mod Renamed

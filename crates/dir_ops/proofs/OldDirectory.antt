@@ -63,7 +63,7 @@ page_is_full whole x node well there = by_content node.content refl
 
 module _ (t : Tables) (whole : Tree) (same : Represents t whole) (well : IsWellFormed whole) (x : ℕ) (r : Inode) (there : inode_at t x ≡ Some r) where
   -- so the check is that of the page
-  empty_check-page : r.kind ≡ kinds.Directory → empty_check (node_at whole x) ≡ fails_with enotempty (nat_lt 0 (length (entries_listed t x [] 1)))
+  pub empty_check-page : r.kind ≡ kinds.Directory → empty_check (node_at whole x) ≡ fails_with enotempty (nat_lt 0 (length (entries_listed t x [] 1)))
   empty_check-page kind =
       let page = directory_page-rows t whole same x r [] 1 there kind in
       ap empty_check page.1

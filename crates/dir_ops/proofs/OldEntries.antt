@@ -73,19 +73,27 @@ module _ (t : Tables) (parent : ℕ) (name : List ℕ) (c : Content) (r : Inode)
 
 module _ (t : Tables) (whole : Tree) (v : IsValid t) (same : Represents t whole) (parent : ℕ) (name : List ℕ) where
   -- an entry names an inode that has a row
-  entry_check-child : entry_check (tree.entry_at whole parent name) ≡ child_check (child_named t parent name)
-  entry_check-child = ap entry_check (entry_at-row t whole same v parent name) ∙ by_entry (entry_named t parent name) refl
+  pub entry_at-child : tree.entry_at whole parent name ≡ option_map (λ (e : Content × Inode). e.0.inode) (child_named t parent name)
+  entry_at-child = entry_at-row t whole same v parent name ∙ by_entry (entry_named t parent name) refl
     where
-      has_row : (c : Content) (own : Option Inode) → IsTrue (elim own as (λ _. Bool) [ Some r ↦ any_kind r.kind | None ↦ false ]) → None ≡ child_check (child_of c own)
+      has_row : (c : Content) (own : Option Inode) → IsTrue (elim own as (λ _. Bool) [ Some r ↦ any_kind r.kind | None ↦ false ])
+          → Some c.inode ≡ option_map (λ (e : Content × Inode). e.0.inode) (child_of c own)
       has_row c None there = absurd (cc there)
       has_row c (Some r) there = refl
 
       by_entry : (e : Option Content) → entry_named t parent name ≡ e
-          → entry_check (option_map (λ c. c.inode) e) ≡ child_check (option_and_then (λ (c : Content). child_of c (inode_at t c.inode)) e)
+          → option_map (λ (c : Content). c.inode) e ≡ option_map (λ (x : Content × Inode). x.0.inode) (option_and_then (λ (c : Content). child_of c (inode_at t c.inode)) e)
       by_entry None own = refl
       by_entry (Some c) own =
           let finds : IsTrue (finds_of_entry t c) = find_passes_all (λ x. x.parent == parent && is_eq (bytes_cmp name (bytes_of_name t x.name_id))) (finds_of_entry t) t.contents c v.rows.entries own in
           has_row c (inode_at t c.inode) (and_parts (has_inode is_directory t c.parent && is_some (name_at t c.name_id)) (has_inode any_kind t c.inode) finds).1
+
+  pub entry_check-child : entry_check (tree.entry_at whole parent name) ≡ child_check (child_named t parent name)
+  entry_check-child = ap entry_check entry_at-child ∙ by_child (child_named t parent name)
+    where
+      by_child : (e : Option (Content × Inode)) → entry_check (option_map (λ (x : Content × Inode). x.0.inode) e) ≡ child_check e
+      by_child None = refl
+      by_child (Some e) = refl
 
   module _ (found : Option Inode) (is : found ≡ inode_at t parent) (child : Option (Content × Inode)) (child_is : child ≡ child_named t parent name) where
     abbrev row_checks : List (Option ℕ)

@@ -7,13 +7,17 @@ mod entries;
 mod link;
 mod lookup;
 mod mkdir;
+mod moved_entry;
+mod moves;
 pub mod new_entry;
 mod old_entry;
 mod old_link;
 pub mod places;
 mod plans;
 mod readdir;
+mod rename;
 mod rmdir;
 mod unlink;
+mod upward;
 
 pub use plans::plan;

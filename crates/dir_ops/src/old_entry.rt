@@ -3,6 +3,7 @@ ghost use Rattle.std.specs.Prelude.{◌≡◌, ◌<◌, ◌^◌, [], ◌∷◌, 
 ghost use Rattle.s3_base.specs.Faults.{HasCause};
 ghost use Rattle.plain_tree.specs.Tree.{Tree};
 ghost use Rattle.plain_tree.specs.Checks.{first_failure, keep_check, name_check};
+ghost use Rattle.s3_rows.specs.declared.change.Change.TheVariants as changes;
 ghost use Rattle.s3_rows.specs.Rows.{Name};
 ghost use Rattle.s3_rows.specs.Selections.{inode_at, name_at};
 ghost use Rattle.s3_rows.specs.Told.{IfTold, has_failed};
@@ -10,7 +11,7 @@ ghost use Rattle.s3_rows.specs.Validity.{IsValid, HasUniqueNames};
 ghost use Rattle.tree_rows.specs.Shapes.{Represents};
 ghost use Rattle.op_checks.specs.Checks.{Checks};
 ghost use Rattle.op_checks.specs.Rows.{row_check, directory_row_check, lock_row_check};
-ghost use Rattle.row_steps.specs.RowChanges.{dropping};
+ghost use Rattle.row_steps.specs.RowChanges.{dropping, touched_row};
 ghost use Rattle.dir_ops.specs.OldEntries.{child_of, child_named, child_check, IsOldEntry};
 
 use crate::entries::find_entry;
@@ -18,7 +19,7 @@ use op_checks::{check_directory, check_keep, check_name, check_node, check_unloc
 use ref_counts::name_down;
 use s3_base::{ByteList, Errno};
 use s3_rows::{Batch, Change, ContentRow, InodeRow, Keeper, KeeperFault};
-use std::alloc::Global;
+use std::alloc::{AllocError, Global};
 
 /// The directory, its entry that goes, and the inode that the entry names.
 #[derive(Clone, Copy, Debug)]
@@ -52,7 +53,7 @@ fn find_child_of<K: Keeper>(
 }
 
 /// The entry of a directory that has this name, and the inode that it names.
-fn find_named_child<K: Keeper>(
+pub fn find_named_child<K: Keeper>(
     keeper: &mut K,
     parent: u64,
     name: &ByteList,
@@ -107,6 +108,23 @@ pub fn find_old_entry<K: Keeper>(
     Ok(check_old_entry(parent, name, found, child))
 }
 
+/// The batch by which an entry is deleted and its directory touched at the time `now`; the uses of its name are as before.
+pub fn lift_entry(alloc: Global, old: &OldEntry, now: u64) -> Result<Batch, AllocError>
+    requires { now < 2 ^ 62 }
+    ensures { IfOk result (λ b. b ≡ changes.DeleteContent old.now.entry.parent old.now.entry.name_id ∷ changes.PutInode (touched_row now old.now.directory) ∷ []) }
+{
+    let directory = old.directory;
+    let entry = old.entry;
+    let mut batch = Batch::new(alloc);
+    batch.push(Change::DeleteContent(entry.parent, entry.name_id))?;
+    batch.push(Change::PutInode(InodeRow {
+        mtime: now,
+        ctime: now,
+        ..directory
+    }))?;
+    Ok(batch)
+}
+
 /// The batch by which an entry goes: it is deleted, its directory touched at the time `now`, and its name used once less.
 pub fn drop_entry<K: Keeper>(
     alloc: Global,
@@ -119,15 +137,8 @@ pub fn drop_entry<K: Keeper>(
     ensures same { K.told keeper.new ≡ K.told keeper.old }
     ensures cause { HasCause (K.faults keeper.old) (K.faults keeper.new) (has_failed result) }
 {
-    let directory = old.directory;
-    let entry = old.entry;
-    let mut batch = Batch::new(alloc);
-    batch.push(Change::DeleteContent(entry.parent, entry.name_id))?;
-    batch.push(Change::PutInode(InodeRow {
-        mtime: now,
-        ctime: now,
-        ..directory
-    }))?;
-    name_down(keeper, &mut batch, entry.name_id)?;
+    let name_id = old.entry.name_id;
+    let mut batch = lift_entry(alloc, old, now)?;
+    name_down(keeper, &mut batch, name_id)?;
     Ok(batch)
 }

@@ -18,6 +18,7 @@ use crate::lookup::plan_lookup;
 use crate::mkdir::plan_mkdir;
 use crate::new_entry::NewInode;
 use crate::readdir::plan_readdir;
+use crate::rename::plan_rename;
 use crate::rmdir::plan_rmdir;
 use crate::unlink::plan_unlink;
 use op_frames::Op;
@@ -25,8 +26,8 @@ use ref_counts::{Handles, Plan};
 use s3_rows::{Keeper, KeeperFault};
 use std::alloc::Global;
 
-/// The plan of an operation of a pass on entries of directories, at a time: Lookup, Mkdir, Create, Unlink, Rmdir, Link or
-/// Readdir. It commits nothing.
+/// The plan of an operation of a pass on entries of directories, at a time: Lookup, Mkdir, Create, Unlink, Rmdir,
+/// Rename, Link or Readdir. It commits nothing.
 pub fn plan<K: Keeper>(
     alloc: Global,
     keeper: &mut K,
@@ -85,6 +86,21 @@ pub fn plan<K: Keeper>(
         ),
         Op::Unlink { parent, name } => plan_unlink(alloc, keeper, handles, *parent, name, now),
         Op::Rmdir { parent, name } => plan_rmdir(alloc, keeper, *parent, name, now),
+        Op::Rename {
+            parent,
+            name,
+            new_parent,
+            new_name,
+        } => plan_rename(
+            alloc,
+            keeper,
+            handles,
+            *parent,
+            name,
+            *new_parent,
+            new_name,
+            now,
+        ),
         Op::Link {
             inode,
             parent,

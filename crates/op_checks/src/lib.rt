@@ -12,7 +12,7 @@ pub use rows::{
     check_link, check_named, check_no_directory, check_node, check_open, check_unlocked,
 };
 pub use values::{
-    check_attribute_name, check_cache, check_flag, check_keep, check_mode, check_name, check_page,
-    check_read_length, check_root, check_size, check_target, check_time, check_value,
+    ROOT, check_attribute_name, check_cache, check_flag, check_keep, check_mode, check_name,
+    check_page, check_read_length, check_root, check_size, check_target, check_time, check_value,
     check_write_end,
 };

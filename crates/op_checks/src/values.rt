@@ -38,7 +38,7 @@ const MAX_CACHE: u32 = 4096;
 const CACHE_BYTES: u64 = 1 << 32;
 
 /// The root's inode number.
-pub(crate) const ROOT: u64 = 1;
+pub const ROOT: u64 = 1;
 
 /// The name of the directory in the root that stays.
 const LOST_AND_FOUND: &[u8] = b"lost+found";

@@ -21,7 +21,7 @@ use Rattle.plain_tree.specs.Checks.{first_failure, node_check, file_check, hand_
 use Rattle.plain_tree.specs.Entries.{entry_at, add_entry, drop_entry, lives, unnamed}
 use Rattle.plain_tree.specs.Files.{inode_of}
 use Rattle.plain_tree.specs.Operations.{checks, effect, success, attr_reply, new_directory, new_file, make_checks, new_link}
-use Rattle.plain_tree.specs.Subtrees.{dropped}
+use Rattle.plain_tree.specs.Subtrees.{dropped, is_same, moved_entry}
 use Rattle.plain_tree.specs.Pages.{attribute_page, directory_page, with_attribute, without_attribute}
 use Rattle.tree_laws.proofs.File.Unwritten.{KeepsFiles-effect}
 use Rattle.ref_counts.specs.Handles.{OpenHandles, HasHandles, opened, closed, closed_all}
@@ -56,6 +56,21 @@ drop_handles h now (Some inode) whole has = by_case (lives (change_node inode (s
     by_case : (b : Bool) → HasHandles h (cond b (change_node inode (stamped now) whole) (without_node inode (change_node inode (stamped now) whole)))
     by_case true = own_handles (stamped now) inode whole h has
     by_case false = own_handles (stamped now) inode whole h has
+
+-- and so does one that moves, whether it replaces another or not
+move_handles : (h : OpenHandles) (parent : ℕ) (name : List ℕ) (new_parent : ℕ) (new_name : List ℕ) (now : ℕ) (inode : Option ℕ) (whole : Tree) → HasHandles h whole
+    → (itself : Bool) → HasHandles h (cond itself whole (moved_entry parent name new_parent new_name now inode whole))
+move_handles h parent name new_parent new_name now inode whole has true = has
+move_handles h parent name new_parent new_name now None whole has false = has
+move_handles h parent name new_parent new_name now (Some inode) whole has false =
+    let left : Tree = drop_entry parent name now whole in
+    let cleared : Tree = drop_entry new_parent new_name now left in
+    let entered : Tree = add_entry new_parent new_name inode now cleared in
+    drop_handles h now (entry_at whole new_parent new_name) (change_node inode (stamped now) entered)
+    (own_handles (stamped now) inode entered h
+    (own_handles (λ node. touched now (record node { content = named new_name inode node.content })) new_parent cleared h
+    (own_handles (λ node. touched now (record node { content = unnamed new_name node.content })) new_parent left h
+    (own_handles (λ node. touched now (record node { content = unnamed name node.content })) parent whole h has))))
 
 -- ---- a new file
 
@@ -190,6 +205,9 @@ module _ (whole : Tree) (h : OpenHandles) (has : HasHandles h whole) (pass now :
       (own_handles (λ node. touched now (record node { content = unnamed name node.content })) parent whole h has))
   fulfils (ops.Rmdir parent name) is passes =
       keeps (ops.Rmdir parent name) refl refl (own_handles (λ node. touched now (record node { content = unnamed name node.content })) parent whole h has)
+  fulfils (ops.Rename parent name new_parent new_name) is passes =
+      keeps (ops.Rename parent name new_parent new_name) refl refl
+      (move_handles h parent name new_parent new_name now (entry_at whole parent name) whole has (is_same (entry_at whole new_parent new_name) (entry_at whole parent name)))
   fulfils (ops.Open inode) is passes = record {
     hand = λ x some. open_hand whole pass inode passes;
     handles = open_handles whole pass inode now h has passes;

@@ -146,6 +146,7 @@ impl<K: Keeper> RowCore<K> {
             | Op::Create { .. }
             | Op::Unlink { .. }
             | Op::Rmdir { .. }
+            | Op::Rename { .. }
             | Op::Link { .. }
             | Op::Readdir { .. } => { self.on_entries(pass, op, now) }
             Op::Truncate { inode, size } => self.truncate(*inode, *size, now),

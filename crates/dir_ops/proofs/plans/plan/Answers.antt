@@ -60,3 +60,11 @@ returns-in-Unlink-clause-plan g c =
     (λ t planned v unique blocks slots whole same well has. subst (λ (op : Op). IsPlanOf t whole c.args.pass op c.args.now p) (sym c.in-Unlink.is) (planned v unique blocks slots whole c.args.pass same well has))
     own)
     c.plan_unlink.result c.plan_unlink.ensures.plan
+
+pub returns-in-Rename-clause-plan : goal.returns-in-Rename-clause-plan
+returns-in-Rename-clause-plan g c =
+    if_ok _ _ (λ p own.
+    IfTold-weaker (g.K.Keeper.told c.args.keeper.now) _ _
+    (λ t planned v unique blocks slots whole same well has. subst (λ (op : Op). IsPlanOf t whole c.args.pass op c.args.now p) (sym c.in-Rename.is) (planned v unique blocks slots whole c.args.pass same well has))
+    own)
+    c.plan_rename.result c.plan_rename.ensures.plan

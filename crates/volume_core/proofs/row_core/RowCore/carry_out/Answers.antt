@@ -32,6 +32,7 @@ returns-in_default-clause-built g c built whole s = absurd (has_arm c.args.op.no
     has_arm (ops.Create parent name mode uid gid) is own = c.in_default.not-Create parent name mode uid gid is
     has_arm (ops.Unlink parent name) is own = c.in_default.not-Unlink parent name is
     has_arm (ops.Rmdir parent name) is own = c.in_default.not-Rmdir parent name is
+    has_arm (ops.Rename parent name new_parent new_name) is own = c.in_default.not-Rename parent name new_parent new_name is
     has_arm (ops.Link inode parent name) is own = c.in_default.not-Link inode parent name is
     has_arm (ops.Symlink parent name target uid gid) is own = c.in_default.not-Symlink parent name target uid gid is
     has_arm (ops.Readlink inode) is own = c.in_default.not-Readlink inode is
