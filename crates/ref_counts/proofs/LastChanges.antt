@@ -1,7 +1,8 @@
 -- What is read of tables after changes, by the last changes.
 use Rattle.std.proofs.Common.{◌≡◌, ℕ, List, [], ◌∷◌, Bool, true, false, cond, Option, None, Some, refl, sym, ap, ◌∙◌}
-use Rattle.std.specs.Prelude.{◌==◌, ◌&&◌, not, option_map, unwrap_or}
+use Rattle.std.specs.Prelude.{◌==◌, ◌&&◌, IsTrue, not, option_map, unwrap_or}
 use Rattle.std.specs.Option.{option_or, option_and_then}
+use Rattle.std.specs.List.{list_all}
 use Rattle.std.specs.declared.cmp.Ordering.{Ordering}
 use Rattle.std.specs.declared.cmp.Ordering.TheVariants.{Less, Equal, Greater}
 use Rattle.std.specs.Ordering.{is_eq, nat_cmp, ordering_then}
@@ -32,22 +33,27 @@ unwrap_or-option_or : {A : Type 0} (a b : Option A) (d : A) → unwrap_or a (unw
 unwrap_or-option_or None b d = refl
 unwrap_or-option_or (Some x) b d = refl
 
-option_map-option_or : {A B : Type 0} (f : A → B) (a b : Option A) → option_or (option_map f a) (option_map f b) ≡ option_map f (option_or a b)
+option_map-option_or : {A B : Type 0} (f : A → B) (a b : Option A)
+    → option_or (option_map f a) (option_map f b) ≡ option_map f (option_or a b)
 option_map-option_or f None b = refl
 option_map-option_or f (Some x) b = refl
 
--- Where a change of a row says what is read of the tables after it, and every other leaves that, the last change of the row says
--- what is read after all.
-module _ {A : Type 0} (read : Tables → A) (id : RowId) (says : Change → A) (each : (c : Change) (t : Tables) → read (after_change c t) ≡ unwrap_or (option_map says (about id c)) (read t)) where
-  pub read-tables_after : (cs : List Change) (t : Tables) → read (tables_after cs t) ≡ unwrap_or (option_map says (last_change id cs)) (read t)
+-- Where a change of a row says what is read of the tables after it, and every other leaves that, the last change of the
+-- row says what is read after all.
+module _ {A : Type 0} (read : Tables → A) (id : RowId) (says : Change → A)
+    (each : (c : Change) (t : Tables) → read (after_change c t) ≡ unwrap_or (option_map says (about id c)) (read t)) where
+  pub read-tables_after : (cs : List Change) (t : Tables)
+      → read (tables_after cs t) ≡ unwrap_or (option_map says (last_change id cs)) (read t)
   read-tables_after [] t = refl
   read-tables_after (c ∷ cs) t =
-      read-tables_after cs (after_change c t) ∙ ap (unwrap_or (option_map says (last_change id cs))) (each c t)
+      read-tables_after cs (after_change c t)
+      ∙ ap (unwrap_or (option_map says (last_change id cs))) (each c t)
       ∙ unwrap_or-option_or (option_map says (last_change id cs)) (option_map says (about id c)) (read t)
       ∙ ap (λ a. unwrap_or a (read t)) (option_map-option_or says (last_change id cs) (about id c))
 
   -- what is read after changes of which one is the last of the row, and after changes of which none is about it
-  pub read-said : (cs : List Change) (t : Tables) (c : Change) → last_change id cs ≡ Some c → says c ≡ read (tables_after cs t)
+  pub read-said : (cs : List Change) (t : Tables) (c : Change)
+      → last_change id cs ≡ Some c → says c ≡ read (tables_after cs t)
   read-said cs t c is = sym (read-tables_after cs t ∙ ap (λ last. unwrap_or (option_map says last) (read t)) is)
 
   pub read-kept : (cs : List Change) (t : Tables) → last_change id cs ≡ None → read t ≡ read (tables_after cs t)
@@ -55,31 +61,47 @@ module _ {A : Type 0} (read : Tables → A) (id : RowId) (says : Change → A) (
 
 -- ---- rows of any table
 
-by_cond : {A : Type 0} (says : Change → A) (c : Change) (b : Bool) (d : A) → cond b (says c) d ≡ unwrap_or (option_map says (cond b (Some c) None)) d
+by_cond : {A : Type 0} (says : Change → A) (c : Change) (b : Bool) (d : A)
+    → cond b (says c) d ≡ unwrap_or (option_map says (cond b (Some c) None)) d
 by_cond says c true d = refl
 by_cond says c false d = refl
 
 -- A put of a row and a delete of a key say what is found of the key, where they are about its row; `same` is their test.
-module _ {K R : Type 0} (o : Order K R) (total : IsTotalOrder o.compare) (says : Change → Option R) (c : Change) (same : Bool) where
-  pub row_at-put_said : (k : K) (r : R) (rows : List R) → has_key o k r ≡ same → says c ≡ Some r → row_at o k (put o r rows) ≡ unwrap_or (option_map says (cond same (Some c) None)) (row_at o k rows)
-  row_at-put_said k r rows tests put_is = row_at-put o total k r rows ∙ (λ i. cond (tests i) (sym put_is i) (row_at o k rows)) ∙ by_cond says c same (row_at o k rows)
+module _ {K R : Type 0} (o : Order K R) (total : IsTotalOrder o.compare)
+    (says : Change → Option R) (c : Change) (same : Bool) where
+  pub row_at-put_said : (k : K) (r : R) (rows : List R) → has_key o k r ≡ same → says c ≡ Some r
+      → row_at o k (put o r rows) ≡ unwrap_or (option_map says (cond same (Some c) None)) (row_at o k rows)
+  row_at-put_said k r rows tests put_is =
+      row_at-put o total k r rows
+      ∙ (λ i. cond (tests i) (sym put_is i) (row_at o k rows))
+      ∙ by_cond says c same (row_at o k rows)
 
-  pub row_at-without_said : (j k : K) (rows : List R) → is_eq (o.compare j k) ≡ same → says c ≡ None → row_at o k (without o j rows) ≡ unwrap_or (option_map says (cond same (Some c) None)) (row_at o k rows)
-  row_at-without_said j k rows tests gone = row_at-without o total j k rows ∙ (λ i. cond (tests i) (sym gone i) (row_at o k rows)) ∙ by_cond says c same (row_at o k rows)
+  pub row_at-without_said : (j k : K) (rows : List R) → is_eq (o.compare j k) ≡ same → says c ≡ None
+      → row_at o k (without o j rows) ≡ unwrap_or (option_map says (cond same (Some c) None)) (row_at o k rows)
+  row_at-without_said j k rows tests gone =
+      row_at-without o total j k rows
+      ∙ (λ i. cond (tests i) (sym gone i) (row_at o k rows))
+      ∙ by_cond says c same (row_at o k rows)
 
 -- ---- names by their ids
 
-name_at-after_change : (id : ℕ) (c : Change) (t : Tables) → name_at (after_change c t) id ≡ unwrap_or (option_map name_put (about (ids.Name id) c)) (name_at t id)
+name_at-after_change : (id : ℕ) (c : Change) (t : Tables)
+    → name_at (after_change c t) id ≡ unwrap_or (option_map name_put (about (ids.Name id) c)) (name_at t id)
 name_at-after_change id (changes.PutName r) t =
-    row_at-put_said by_name nat_cmp_total name_put (changes.PutName r) (r.id == id) id r t.names (is_eq-nat_cmp id r.id ∙ eqb_comm id r.id) refl
-name_at-after_change id (changes.DeleteName x) t = row_at-without_said by_name nat_cmp_total name_put (changes.DeleteName x) (x == id) x id t.names (is_eq-nat_cmp x id) refl
+    row_at-put_said by_name nat_cmp_total name_put (changes.PutName r) (r.id == id) id r t.names
+    (is_eq-nat_cmp id r.id ∙ eqb_comm id r.id) refl
+name_at-after_change id (changes.DeleteName x) t =
+    row_at-without_said by_name nat_cmp_total name_put (changes.DeleteName x) (x == id) x id t.names
+    (is_eq-nat_cmp x id) refl
 name_at-after_change id _ t = refl
 
 -- the row of a name is what its last change puts
-pub name_at-said : (id : ℕ) (cs : List Change) (t : Tables) (c : Change) → last_change (ids.Name id) cs ≡ Some c → name_put c ≡ name_at (tables_after cs t) id
+pub name_at-said : (id : ℕ) (cs : List Change) (t : Tables) (c : Change)
+    → last_change (ids.Name id) cs ≡ Some c → name_put c ≡ name_at (tables_after cs t) id
 name_at-said id = read-said (λ t. name_at t id) (ids.Name id) name_put (name_at-after_change id)
 
-pub name_at-kept : (id : ℕ) (cs : List Change) (t : Tables) → last_change (ids.Name id) cs ≡ None → name_at t id ≡ name_at (tables_after cs t) id
+pub name_at-kept : (id : ℕ) (cs : List Change) (t : Tables)
+    → last_change (ids.Name id) cs ≡ None → name_at t id ≡ name_at (tables_after cs t) id
 name_at-kept id = read-kept (λ t. name_at t id) (ids.Name id) name_put (name_at-after_change id)
 
 -- ---- links, blocks and objects by their keys
@@ -136,24 +158,32 @@ object-kept id = read-kept (λ t. object_at t id) (ids.Object id) object_put (ob
 
 -- ---- parameters
 
-params-after_change : (c : Change) (t : Tables) → (after_change c t).params ≡ unwrap_or (option_map params_set (about ids.Params c)) t.params
+params-after_change : (c : Change) (t : Tables)
+    → (after_change c t).params ≡ unwrap_or (option_map params_set (about ids.Params c)) t.params
 params-after_change (changes.SetParams p) t = refl
 params-after_change _ t = refl
 
 -- the parameters are those that are set last
-pub params-said : (cs : List Change) (t : Tables) (c : Change) → last_change ids.Params cs ≡ Some c → params_set c ≡ (tables_after cs t).params
+pub params-said : (cs : List Change) (t : Tables) (c : Change)
+    → last_change ids.Params cs ≡ Some c → params_set c ≡ (tables_after cs t).params
 params-said = read-said (λ t. t.params) ids.Params params_set params-after_change
 
-pub params-kept : (cs : List Change) (t : Tables) → last_change ids.Params cs ≡ None → t.params ≡ (tables_after cs t).params
+pub params-kept : (cs : List Change) (t : Tables)
+    → last_change ids.Params cs ≡ None → t.params ≡ (tables_after cs t).params
 params-kept = read-kept (λ t. t.params) ids.Params params_set params-after_change
 
 -- ---- names by their bytes
 
+-- the id of the name with these bytes, if any
+abbrev id_of_bytes : Tables → List ℕ → Option ℕ
+id_of_bytes t bytes = option_map (λ n. n.id) (name_of_bytes t bytes)
+
 -- the id of the name that is put last with these bytes, and else of the one in the tables
 abbrev pub id_after : List Change → Tables → List ℕ → Option ℕ
-id_after cs t bytes = option_or (last_named bytes cs) (option_map (λ n. n.id) (name_of_bytes t bytes))
+id_after cs t bytes = option_or (last_named bytes cs) (id_of_bytes t bytes)
 
-id-kept : (x id : ℕ) (found : Option Name) → option_map (λ n. n.id) (kept by_name x found) ≡ Some id → option_map (λ n. n.id) found ≡ Some id
+id-kept : (x id : ℕ) (found : Option Name)
+    → option_map (λ n. n.id) (kept by_name x found) ≡ Some id → option_map (λ n. n.id) found ≡ Some id
 id-kept x id None is = absurd (cc is)
 id-kept x id (Some n) is = by_case (has_key by_name x n) is
   where
@@ -162,13 +192,14 @@ id-kept x id (Some n) is = by_case (has_key by_name x n) is
     by_case false is = is
 
 -- a row with these bytes after a change is the one that it puts, or was there before
-id_after-change : (c : Change) (t : Tables) (bytes : List ℕ) (id : ℕ) → IsOrdered t → StaysUnique (c ∷ []) t → option_map (λ n. n.id) (name_of_bytes (after_change c t) bytes) ≡ Some id
-    → option_or (id_named bytes c) (option_map (λ n. n.id) (name_of_bytes t bytes)) ≡ Some id
+id_after-change : (c : Change) (t : Tables) (bytes : List ℕ) (id : ℕ) → IsOrdered t → StaysUnique (c ∷ []) t
+    → id_of_bytes (after_change c t) bytes ≡ Some id → option_or (id_named bytes c) (id_of_bytes t bytes) ≡ Some id
 id_after-change (changes.PutName r) t bytes id ordered unique is =
     by_case (has_bytes bytes r) (ap (option_map (λ n. n.id)) (put_found t r bytes ordered unique.0 unique.1) ∙ is)
   where
-    by_case : (b : Bool) → option_map (λ n. n.id) (cond b (Some r) (kept by_name r.id (name_of_bytes t bytes))) ≡ Some id
-        → option_or (cond b (Some r.id) None) (option_map (λ n. n.id) (name_of_bytes t bytes)) ≡ Some id
+    by_case : (b : Bool)
+        → option_map (λ n. n.id) (cond b (Some r) (kept by_name r.id (name_of_bytes t bytes))) ≡ Some id
+        → option_or (cond b (Some r.id) None) (id_of_bytes t bytes) ≡ Some id
     by_case true now = now
     by_case false now = id-kept r.id id (name_of_bytes t bytes) now
 id_after-change (changes.DeleteName x) t bytes id ordered unique is =
@@ -176,47 +207,67 @@ id_after-change (changes.DeleteName x) t bytes id ordered unique is =
 id_after-change _ t bytes id ordered unique is = is
 
 -- a row with these bytes after all changes is the one that is put last with them, or was there before
-id_after-found : (cs : List Change) (t : Tables) (bytes : List ℕ) (n : Name) → IsOrdered t → StaysUnique cs t → name_of_bytes (tables_after cs t) bytes ≡ Some n → id_after cs t bytes ≡ Some n.id
+id_after-found : (cs : List Change) (t : Tables) (bytes : List ℕ) (n : Name) → IsOrdered t → StaysUnique cs t
+    → name_of_bytes (tables_after cs t) bytes ≡ Some n → id_after cs t bytes ≡ Some n.id
 id_after-found [] t bytes n ordered unique found = ap (option_map (λ n. n.id)) found
 id_after-found (c ∷ cs) t bytes n ordered unique found =
-    by_case (last_named bytes cs) (id_after-found cs (after_change c t) bytes n (IsOrdered-after_change c t ordered) unique.1 found)
+    by_case (last_named bytes cs)
+    (id_after-found cs (after_change c t) bytes n (IsOrdered-after_change c t ordered) unique.1 found)
   where
-    by_case : (last : Option ℕ) → option_or last (option_map (λ n. n.id) (name_of_bytes (after_change c t) bytes)) ≡ Some n.id
-        → option_or (option_or last (id_named bytes c)) (option_map (λ n. n.id) (name_of_bytes t bytes)) ≡ Some n.id
-    by_case None is = id_after-change c t bytes n.id ordered (unique.0, unique_now cs (after_change c t) unique.1) is
+    by_case : (last : Option ℕ) → option_or last (id_of_bytes (after_change c t) bytes) ≡ Some n.id
+        → option_or (option_or last (id_named bytes c)) (id_of_bytes t bytes) ≡ Some n.id
+    by_case None is =
+        id_after-change c t bytes n.id ordered (unique.0, unique_now cs (after_change c t) unique.1) is
     by_case (Some x) is = is
 
 -- the row of its id has its bytes
-with_bytes-found : (t : Tables) (bytes : List ℕ) (n : Name) → IsOrdered t → name_of_bytes t bytes ≡ Some n → with_bytes bytes (name_at t n.id) ≡ Some n
+with_bytes-found : (t : Tables) (bytes : List ℕ) (n : Name) → IsOrdered t
+    → name_of_bytes t bytes ≡ Some n → with_bytes bytes (name_at t n.id) ≡ Some n
 with_bytes-found t bytes n ordered found =
-    ap (with_bytes bytes) (row_at_from_find by_name nat_cmp_total (has_bytes bytes) t.names n ordered.names found) ∙ ap (λ b. cond b (Some n) None) (find_passes (has_bytes bytes) t.names n found)
+    ap (with_bytes bytes) (row_at_from_find by_name nat_cmp_total (has_bytes bytes) t.names n ordered.names found)
+    ∙ ap (λ b. cond b (Some n) None) (find_passes (has_bytes bytes) t.names n found)
 
 -- no row has bytes that are not found
-with_bytes-none : (t : Tables) (bytes : List ℕ) (id : ℕ) → name_of_bytes t bytes ≡ None → with_bytes bytes (name_at t id) ≡ None
+with_bytes-none : (t : Tables) (bytes : List ℕ) (id : ℕ)
+    → name_of_bytes t bytes ≡ None → with_bytes bytes (name_at t id) ≡ None
 with_bytes-none t bytes id none = by_case (name_at t id) refl
   where
+    others : IsTrue (list_all (λ x. not (has_bytes bytes x)) t.names)
+    others = list_all_from_find (has_bytes bytes) t.names none
+
     by_case : (found : Option Name) → name_at t id ≡ found → with_bytes bytes found ≡ None
     by_case None is = refl
-    by_case (Some m) is = ap (λ b. cond b (Some m) None) (false_from_not (has_bytes bytes m) (row_at_passes by_name (λ x. not (has_bytes bytes x)) id t.names m (list_all_from_find (has_bytes bytes) t.names none) is))
+    by_case (Some m) is =
+        ap (λ b. cond b (Some m) None)
+        (false_from_not (has_bytes bytes m) (row_at_passes by_name (λ x. not (has_bytes bytes x)) id t.names m others is))
 
 -- the row with these bytes is that of its id, where that has them still
 name_of_bytes-tables_after : (cs : List Change) (t : Tables) (bytes : List ℕ) → IsOrdered t → StaysUnique cs t
-    → name_of_bytes (tables_after cs t) bytes ≡ option_and_then (λ id. with_bytes bytes (name_at (tables_after cs t) id)) (id_after cs t bytes)
-name_of_bytes-tables_after cs t bytes ordered unique = by_case (name_of_bytes (tables_after cs t) bytes) refl
+    → name_of_bytes (tables_after cs t) bytes
+    ≡ option_and_then (λ id. with_bytes bytes (name_at (tables_after cs t) id)) (id_after cs t bytes)
+name_of_bytes-tables_after cs t bytes ordered unique = by_case (name_of_bytes after bytes) refl
   where
     after : Tables
     after = tables_after cs t
 
-    none : name_of_bytes after bytes ≡ None → (id : Option ℕ) → None ≡ option_and_then (λ id. with_bytes bytes (name_at after id)) id
+    row_of : Option ℕ → Option Name
+    row_of id = option_and_then (λ n. with_bytes bytes (name_at after n)) id
+
+    none : name_of_bytes after bytes ≡ None → (id : Option ℕ) → None ≡ row_of id
     none is None = refl
     none is (Some id) = sym (with_bytes-none after bytes id is)
 
-    by_case : (found : Option Name) → name_of_bytes after bytes ≡ found → found ≡ option_and_then (λ id. with_bytes bytes (name_at after id)) (id_after cs t bytes)
+    by_case : (found : Option Name) → name_of_bytes after bytes ≡ found → found ≡ row_of (id_after cs t bytes)
     by_case None is = none is (id_after cs t bytes)
     by_case (Some n) is =
-        sym (with_bytes-found after bytes n (IsOrdered-tables_after cs t ordered) is) ∙ ap (option_and_then (λ id. with_bytes bytes (name_at after id))) (sym (id_after-found cs t bytes n ordered unique is))
+        sym (with_bytes-found after bytes n (IsOrdered-tables_after cs t ordered) is)
+        ∙ ap row_of (sym (id_after-found cs t bytes n ordered unique is))
 
 -- the same of an id that was found
-pub name_of_bytes-found : (cs : List Change) (t : Tables) (bytes : List ℕ) (found : Option ℕ) → IsOrdered t → StaysUnique cs t → found ≡ id_after cs t bytes
-    → option_and_then (λ id. with_bytes bytes (name_at (tables_after cs t) id)) found ≡ name_of_bytes (tables_after cs t) bytes
-name_of_bytes-found cs t bytes found ordered unique is = ap (option_and_then (λ id. with_bytes bytes (name_at (tables_after cs t) id))) is ∙ sym (name_of_bytes-tables_after cs t bytes ordered unique)
+pub name_of_bytes-found : (cs : List Change) (t : Tables) (bytes : List ℕ) (found : Option ℕ)
+    → IsOrdered t → StaysUnique cs t → found ≡ id_after cs t bytes
+    → option_and_then (λ id. with_bytes bytes (name_at (tables_after cs t) id)) found
+    ≡ name_of_bytes (tables_after cs t) bytes
+name_of_bytes-found cs t bytes found ordered unique is =
+    ap (option_and_then (λ id. with_bytes bytes (name_at (tables_after cs t) id))) is
+    ∙ sym (name_of_bytes-tables_after cs t bytes ordered unique)

@@ -9,8 +9,11 @@ use Rattle.ref_counts.proofs.pending.last_name_id.Goals as goal
 
 pub returns-in-None-clause-id : goal.returns-in-None-clause-id
 returns-in-None-clause-id g c =
-    let none : last_named c.args.name.now c.args.batch.now ≡ None = ap (λ name. last_named name c.args.batch.now) (sym c.as_slice.ensures) ∙ sym c.last_named.ensures ∙ c.in-None.is in
+    let batch = c.args.batch.now in
+    let none : last_named c.args.name.now batch ≡ None =
+    ap (λ name. last_named name batch) (sym c.as_slice.ensures) ∙ sym c.last_named.ensures ∙ c.in-None.is in
     if_ok _ _
     (λ id own.
-    IfTold-weaker (g.K.Keeper.told c.args.keeper.now) _ _ (λ t is. is ∙ ap (λ last. option_or last (option_map (λ n. n.id) (name_of_bytes t c.args.name.now))) (sym none)) own)
+    IfTold-weaker (g.K.Keeper.told c.args.keeper.now) _ _
+    (λ t is. is ∙ ap (λ last. option_or last (option_map (λ n. n.id) (name_of_bytes t c.args.name.now))) (sym none)) own)
     c.name_id.result c.name_id.ensures.row
