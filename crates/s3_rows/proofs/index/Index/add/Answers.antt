@@ -10,12 +10,19 @@ use Rattle.s3_rows.proofs.index.Index.add.Goals as goal
 
 pub returns-clause-ok : goal.returns-clause-ok
 returns-clause-ok c changes last now =
-    let lists : Lists c.args.change.now (record c.args.self.now { places = c.insert.new.self }) c.add_bytes.new.self = search rules in
+    let change = c.args.change.now in
+    let after = record c.args.self.now { places = c.insert.new.self } in
+    let lists : Lists change after c.add_bytes.new.self = search rules in
     record {
       places =
-          λ id. ap (λ (m : BTreeMap RowId ℕ). tree.get row_cmp m id) c.add_bytes.ensures.places ∙ c.in_ok-before.ensures.updates.0 id
+          λ id. ap (λ (m : BTreeMap RowId ℕ). tree.get row_cmp m id) c.add_bytes.ensures.places
+          ∙ c.in_ok-before.ensures.updates.0 id
           ∙ (λ i. cond ((same_row-ties c.row_id-id.result id ∙ ap (λ r. same_row r id) c.row_id-id.ensures) i) (Some (sym last i)) (now.places id i))
-          ∙ sym (last_place-push id changes c.args.change.now);
-      names = λ bytes. lists.names bytes ∙ ap (λ a. option_or (id_named bytes c.args.change.now) a) (now.names bytes) ∙ sym (last_of-push (id_named bytes) changes c.args.change.now);
-      digests = λ digest. lists.digests digest ∙ ap (λ a. option_or (id_hashed digest c.args.change.now) a) (now.digests digest) ∙ sym (last_of-push (id_hashed digest) changes c.args.change.now);
+          ∙ sym (last_place-push id changes change);
+      names =
+          λ bytes. lists.names bytes ∙ ap (λ a. option_or (id_named bytes change) a) (now.names bytes)
+          ∙ sym (last_of-push (id_named bytes) changes change);
+      digests =
+          λ digest. lists.digests digest ∙ ap (λ a. option_or (id_hashed digest change) a) (now.digests digest)
+          ∙ sym (last_of-push (id_hashed digest) changes change);
     }
