@@ -12,6 +12,8 @@ enum Field {
     Middle,
     /// A number of two bytes.
     Short,
+    /// A number of one byte.
+    Byte,
     /// A number of two bytes, in octal.
     Mode,
     /// Bytes behind their length of two bytes.
@@ -76,8 +78,13 @@ const SHAPES: &[(&str, Shape)] = &[
     ("write", (18, &[Field::Long, Field::Long, Field::Data])),
     ("readdir", (20, PAGE)),
     ("statfs", (21, &[])),
+    (
+        "setxattr",
+        (22, &[Field::Long, Field::Name, Field::Byte, Field::Data]),
+    ),
     ("getxattr", (23, INODE_AND_NAME)),
     ("listxattr", (24, PAGE)),
+    ("removexattr", (25, INODE_AND_NAME)),
     ("flushcache", (29, &[])),
     ("leave", (32, &[])),
 ];
@@ -99,6 +106,16 @@ fn put_middle(frame: &mut Vec<u8>, word: &str) -> Result<(), AllocError> {
 fn put_short(frame: &mut Vec<u8>, word: &str) -> Result<(), AllocError> {
     match word.parse::<u16>() {
         Ok(number) => frame.extend_from_slice(&number.to_be_bytes()),
+        Err(_) => Ok(()),
+    }
+}
+
+fn put_byte(frame: &mut Vec<u8>, word: &str) -> Result<(), AllocError> {
+    match word.parse::<u8>() {
+        Ok(number) => {
+            frame.push(number)?;
+            Ok(())
+        }
         Err(_) => Ok(()),
     }
 }
@@ -152,6 +169,7 @@ fn put_field(
         Field::Long => put_long(frame, word),
         Field::Middle => put_middle(frame, word),
         Field::Short => put_short(frame, word),
+        Field::Byte => put_byte(frame, word),
         Field::Mode => put_mode(frame, word),
         Field::Name => put_name(alloc, frame, word),
         Field::Data => put_data(alloc, frame, word),
