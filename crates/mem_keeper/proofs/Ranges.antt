@@ -1,6 +1,6 @@
 -- Rows that keep their ranges, under changes.
-use Rattle.std.proofs.Common.{◌≡◌, Some, subst, List, [], ◌∷◌, Bool, true, false, cond, All}
-use Rattle.std.specs.List.{AllByRecursion, filter}
+use Rattle.std.proofs.Common.{◌≡◌, Some, subst, List, [], ◌∷◌, All}
+use Rattle.std.specs.List.{AllByRecursion}
 use Rattle.std.specs.declared.cmp.Ordering.{Ordering}
 use Rattle.std.specs.declared.cmp.Ordering.TheVariants.{Less, Equal, Greater}
 use Rattle.std.proofs.lemmas.List.Elements.{All-from_recursion, recursion_from_All, All-filter}

@@ -2,3 +2,4 @@ pub mod Index
 pub mod Indexes
 pub mod Memory
 pub mod Store
+pub mod Table

@@ -11,9 +11,8 @@ use crate::commit::commit_batch;
 use crate::indexes::{block_of_digest_in, name_id_in};
 use crate::look_ups::{attr_of, copy_of_row, name_of, target_of};
 use crate::pages::page_of_store;
-use row_lists::{
-    attrs_of, blocks_of_inode, entries_of, free_objects_of, holder_of_inode, slot_of, slots_of,
-};
+use crate::spots::{blocks_of_spots, settle, spot_at};
+use row_lists::{attrs_of, entries_of, free_objects_of, holder_of_inode, slot_of, slots_of};
 use s3_base::{ByteList, NumberList};
 use s3_rows::{
     AttrRow, Batch, BlockRow, ContentRow, Digest, EntryList, InodeBlockList, InodeBlockRow,
@@ -141,7 +140,8 @@ impl Keeper for MemKeeper {
         ensures call { IsCall result self.old self.new }
     {
         self.begin()?;
-        Ok(copy_of_row(&self.store.inode_blocks, (inode, blockno)))
+        settle(&mut self.store.inode_blocks, self.alloc)?;
+        Ok(spot_at(&self.store.inode_blocks, inode, blockno))
     }
 
     fn blocks_of(&mut self, inode: u64, from: u64, max: u32) -> Result<InodeBlockList, KeeperFault>
@@ -153,7 +153,8 @@ impl Keeper for MemKeeper {
         ensures call { IsCall result self.old self.new }
     {
         self.begin()?;
-        match blocks_of_inode(self.alloc, &self.store.inode_blocks, inode, from, max) {
+        settle(&mut self.store.inode_blocks, self.alloc)?;
+        match blocks_of_spots(self.alloc, &self.store.inode_blocks, inode, from, max) {
             Ok(found) => Ok(found),
             Err(_) => Err(KeeperFault::Memory),
         }
@@ -295,6 +296,7 @@ impl Keeper for MemKeeper {
         ensures call { IsCall result self.old self.new }
     {
         self.begin()?;
+        settle(&mut self.store.inode_blocks, self.alloc)?;
         match page_of_store(self.alloc, &self.store, table, after, max) {
             Ok(found) => Ok(found),
             Err(_) => Err(KeeperFault::Memory),

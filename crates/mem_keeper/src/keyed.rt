@@ -1,10 +1,11 @@
 //! The key of each table's rows.
-ghost use Rattle.std.specs.Prelude.{◌≡◌};
+ghost use Rattle.std.specs.Prelude.{◌≡◌, IfOk};
 ghost use Rattle.s3_rows.specs.Rows.{IsInode, IsName, IsContent, IsInodeBlock, IsBlock, IsObject, IsTarget, IsAttr, IsSlot};
 
 use s3_rows::{
     AttrRow, BlockRow, ContentRow, InodeBlockRow, InodeRow, NameRow, ObjectRow, SlotRow, TargetRow,
 };
+use std::alloc::AllocError;
 
 /// A row with a key.
 pub(crate) trait Keyed: Drop {
@@ -18,6 +19,9 @@ pub(crate) trait Keyed: Drop {
     fn key(&self) -> Self::Key
         ensures key { result ≡ key self.now }
         ensures fits { fits self.now };
+
+    fn copy(&self) -> Result<Self, AllocError>
+        ensures { IfOk result (λ r. r ≡ self.now) };
 }
 
 impl Keyed for InodeRow {
@@ -29,6 +33,10 @@ impl Keyed for InodeRow {
 
     fn key(&self) -> u64 {
         self.id
+    }
+
+    fn copy(&self) -> Result<Self, AllocError> {
+        Ok(*self)
     }
 }
 
@@ -42,6 +50,10 @@ impl Keyed for NameRow {
     fn key(&self) -> u64 {
         self.id
     }
+
+    fn copy(&self) -> Result<Self, AllocError> {
+        self.clone()
+    }
 }
 
 impl Keyed for ContentRow {
@@ -53,6 +65,10 @@ impl Keyed for ContentRow {
 
     fn key(&self) -> (u64, u64) {
         (self.parent, self.name_id)
+    }
+
+    fn copy(&self) -> Result<Self, AllocError> {
+        Ok(*self)
     }
 }
 
@@ -66,6 +82,10 @@ impl Keyed for InodeBlockRow {
     fn key(&self) -> (u64, u64) {
         (self.inode, self.blockno)
     }
+
+    fn copy(&self) -> Result<Self, AllocError> {
+        Ok(*self)
+    }
 }
 
 impl Keyed for BlockRow {
@@ -77,6 +97,10 @@ impl Keyed for BlockRow {
 
     fn key(&self) -> u64 {
         self.id
+    }
+
+    fn copy(&self) -> Result<Self, AllocError> {
+        Ok(*self)
     }
 }
 
@@ -90,6 +114,10 @@ impl Keyed for ObjectRow {
     fn key(&self) -> u64 {
         self.id
     }
+
+    fn copy(&self) -> Result<Self, AllocError> {
+        Ok(*self)
+    }
 }
 
 impl Keyed for TargetRow {
@@ -101,6 +129,10 @@ impl Keyed for TargetRow {
 
     fn key(&self) -> u64 {
         self.inode
+    }
+
+    fn copy(&self) -> Result<Self, AllocError> {
+        self.clone()
     }
 }
 
@@ -114,6 +146,10 @@ impl Keyed for AttrRow {
     fn key(&self) -> (u64, u64) {
         (self.inode, self.name_id)
     }
+
+    fn copy(&self) -> Result<Self, AllocError> {
+        self.clone()
+    }
 }
 
 impl Keyed for SlotRow {
@@ -125,5 +161,9 @@ impl Keyed for SlotRow {
 
     fn key(&self) -> u32 {
         self.slot
+    }
+
+    fn copy(&self) -> Result<Self, AllocError> {
+        Ok(*self)
     }
 }

@@ -11,6 +11,8 @@ mod look_ups;
 mod memory;
 mod pages;
 mod sorted;
+mod spots;
 mod store;
+mod table;
 
 pub use memory::MemKeeper;

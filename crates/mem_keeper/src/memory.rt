@@ -23,7 +23,8 @@ pub struct MemKeeper {
 
 impl Model for MemKeeper {
     ghost use Rattle.std.specs.Prelude.{IsTrue};
-    ghost use Rattle.s3_rows.specs.Tables.{IsOrdered};
+    ghost use Rattle.s3_rows.specs.Tables.{IsOrdered, by_spot};
+    ghost use Rattle.mem_keeper.specs.Table.{IsTable};
     ghost use Rattle.s3_rows.specs.Ranges.{HasRanges};
     ghost use Rattle.mem_keeper.specs.Memory.{KeeperState};
     ghost use Rattle.mem_keeper.specs.Store.{tables_of};
@@ -33,7 +34,7 @@ impl Model for MemKeeper {
 
     ghost view = { λ k. record { told = record { tables = tables_of k.store; commits = k.commits }; calls = k.calls; fails = k.fails; faults = k.faults } };
 
-    ghost invariant = { λ k. record { ordered : IsOrdered (tables_of k.store); ranges : HasRanges (tables_of k.store); standing : IsTrue k.indexes.stand → Stand k.indexes (tables_of k.store) } };
+    ghost invariant = { λ k. record { ordered : IsOrdered (tables_of k.store); spots : IsTable by_spot k.store.inode_blocks.map.entries; ranges : HasRanges (tables_of k.store); standing : IsTrue k.indexes.stand → Stand k.indexes (tables_of k.store) } };
 }
 
 impl MemKeeper {
@@ -63,7 +64,7 @@ impl MemKeeper {
     pub fn of(alloc: Global, tables: Tables) -> Self
         ensures { result ≡ record { told = record { tables = tables; commits = 0 }; calls = 0; fails = []; faults = 0 } }
     {
-        let store = Store::of(tables);
+        let store = Store::of(alloc, tables);
         tell_all_ranges(&store);
         MemKeeper {
             store,

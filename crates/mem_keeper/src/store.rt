@@ -1,14 +1,18 @@
 //! The tables as vectors of sorted rows.
-ghost use Rattle.std.specs.Prelude.{◌≡◌, ℕ, ◌+◌};
+ghost use Rattle.std.specs.Prelude.{◌≡◌, ℕ, ◌+◌, [], IfNone};
 ghost use Rattle.std.specs.Option.{ForSome};
 ghost use Rattle.s3_rows.specs.Rows.{IsParameters};
 ghost use Rattle.s3_rows.specs.Tables.{IsOrdered, no_tables};
 ghost use Rattle.s3_rows.specs.Batches.{after_change};
 ghost use Rattle.s3_rows.specs.Ranges.{HasRanges};
-ghost use Rattle.mem_keeper.specs.Store.{tables_of, HasRoom, IsFitChange};
+ghost use Rattle.s3_rows.specs.Keyed.{pair_cmp};
+ghost use Rattle.s3_rows.specs.Tables.{by_spot};
+ghost use Rattle.mem_keeper.specs.Store.{tables_of, spots_of, IsSettled, HasPlace, HasRoom, IsFitChange};
+ghost use Rattle.mem_keeper.specs.Table.{IsTable, KeepsPlaces};
 
 use crate::keyed::Keyed;
 use crate::sorted::{put_row, remove_row, replace_row, take_row, tell_ranges};
+use crate::spots::{Spots, put_spot, take_spot, tell_spots};
 use s3_rows::{
     AttrRow, BlockRow, Change, ContentRow, InodeBlockRow, InodeRow, NameRow, ObjectRow, Params,
     SlotRow, Tables, TargetRow,
@@ -22,7 +26,7 @@ pub(crate) struct Store {
     pub inodes: Vec<InodeRow>,
     pub names: Vec<NameRow>,
     pub contents: Vec<ContentRow>,
-    pub inode_blocks: Vec<InodeBlockRow>,
+    pub inode_blocks: Spots,
     pub blocks: Vec<BlockRow>,
     pub objects: Vec<ObjectRow>,
     pub targets: Vec<TargetRow>,
@@ -40,14 +44,15 @@ pub(crate) struct Gone {
 impl Store {
     /// Nothing at all, which takes no memory.
     pub(crate) fn new(alloc: Global) -> Self
-        ensures { tables_of result ≡ no_tables }
+        ensures tables { tables_of result ≡ no_tables }
+        ensures spots { IsTable by_spot result.inode_blocks.map.entries }
     {
         Store {
             params: None,
             inodes: Vec::new(alloc),
             names: Vec::new(alloc),
             contents: Vec::new(alloc),
-            inode_blocks: Vec::new(alloc),
+            inode_blocks: Spots::new(alloc),
             blocks: Vec::new(alloc),
             objects: Vec::new(alloc),
             targets: Vec::new(alloc),
@@ -57,9 +62,11 @@ impl Store {
     }
 
     /// These tables, kept as they are.
-    pub(crate) fn of(tables: Tables) -> Self
+    pub(crate) fn of(alloc: Global, tables: Tables) -> Self
         ensures tables { tables_of result ≡ tables }
         ensures ordered { IsOrdered (tables_of result) }
+        ensures spots { IsTable by_spot result.inode_blocks.map.entries }
+        ensures given { IfNone result.inode_blocks.given (spots_of result.inode_blocks ≡ []) }
     {
         let Tables {
             params,
@@ -78,7 +85,7 @@ impl Store {
             inodes: inodes.into_vec(),
             names: names.into_vec(),
             contents: contents.into_vec(),
-            inode_blocks: inode_blocks.into_vec(),
+            inode_blocks: Spots::of(alloc, inode_blocks.into_vec()),
             blocks: blocks.into_vec(),
             objects: objects.into_vec(),
             targets: targets.into_vec(),
@@ -99,13 +106,14 @@ fn tell_params(params: &Option<Params>)
 
 /// Says that all rows keep the ranges of their types.
 pub(crate) fn tell_all_ranges(store: &Store)
+    requires { IfNone store.now.inode_blocks.given (spots_of store.now.inode_blocks ≡ []) }
     ensures { HasRanges (tables_of store.now) }
 {
     tell_params(&store.params);
     tell_ranges(&store.inodes);
     tell_ranges(&store.names);
     tell_ranges(&store.contents);
-    tell_ranges(&store.inode_blocks);
+    tell_spots(&store.inode_blocks);
     tell_ranges(&store.blocks);
     tell_ranges(&store.objects);
     tell_ranges(&store.targets);
@@ -123,9 +131,13 @@ fn keep<R: Keyed>(gone: &mut Vec<R>, row: Option<R>) {
 /// Makes a change. Rows of names and blocks that go are added to `gone`.
 pub(crate) fn apply_change(store: &mut Store, gone: &mut Gone, change: Change)
     requires ordered { IsOrdered (tables_of store.old) }
+    requires settled { IsSettled store.old.inode_blocks }
+    requires place { HasPlace store.old.inode_blocks change }
     requires room { HasRoom 1 store.old }
     ensures tables { tables_of store.new ≡ after_change change (tables_of store.old) }
     ensures room { (n : ℕ) → HasRoom (n + 1) store.old → HasRoom n store.new }
+    ensures settled { IsSettled store.new.inode_blocks }
+    ensures kept { KeepsPlaces pair_cmp store.old.inode_blocks.map store.new.inode_blocks.map }
     ensures fits { IsFitChange change }
 {
     match change {
@@ -137,9 +149,9 @@ pub(crate) fn apply_change(store: &mut Store, gone: &mut Gone, change: Change)
         Change::DeleteContent(parent, name_id) => {
             remove_row(&mut store.contents, (parent, name_id))
         }
-        Change::PutInodeBlock(row) => put_row(&mut store.inode_blocks, row),
+        Change::PutInodeBlock(row) => put_spot(&mut store.inode_blocks, row),
         Change::DeleteInodeBlock(inode, blockno) => {
-            remove_row(&mut store.inode_blocks, (inode, blockno))
+            take_spot(&mut store.inode_blocks, inode, blockno)
         }
         Change::PutBlock(row) => keep(&mut gone.blocks, replace_row(&mut store.blocks, row)),
         Change::DeleteBlock(id) => keep(&mut gone.blocks, take_row(&mut store.blocks, id)),

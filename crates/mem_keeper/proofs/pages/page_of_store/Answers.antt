@@ -1,4 +1,4 @@
-use Rattle.std.proofs.Common.{sym}
+use Rattle.std.proofs.Common.{refl, sym}
 use Rattle.mem_keeper.specs.Store.{tables_of}
 use Rattle.mem_keeper.proofs.Standing.{if_ok_at}
 use Rattle.mem_keeper.proofs.pages.page_of_store.Goals as goal
@@ -13,7 +13,7 @@ pub returns-in-Contents-clause-rows : goal.returns-in-Contents-clause-rows
 returns-in-Contents-clause-rows c = rw c.in-Contents.is (if_ok_at c.page_of_contents.result _ _ (λ l h. h (tables_of c.args.store.now) (sym c.deref-in-Contents.ensures.value)) c.page_of_contents.ensures.rows)
 
 pub returns-in-InodeBlocks-clause-rows : goal.returns-in-InodeBlocks-clause-rows
-returns-in-InodeBlocks-clause-rows c = rw c.in-InodeBlocks.is (if_ok_at c.page_of_inode_blocks.result _ _ (λ l h. h (tables_of c.args.store.now) (sym c.deref-in-InodeBlocks.ensures.value)) c.page_of_inode_blocks.ensures.rows)
+returns-in-InodeBlocks-clause-rows c = rw c.in-InodeBlocks.is (if_ok_at c.page_of_spots.result _ _ (λ l h. h (tables_of c.args.store.now) refl) c.page_of_spots.ensures.rows)
 
 pub returns-in-Blocks-clause-rows : goal.returns-in-Blocks-clause-rows
 returns-in-Blocks-clause-rows c = rw c.in-Blocks.is (if_ok_at c.page_of_blocks.result _ _ (λ l h. h (tables_of c.args.store.now) (sym c.deref-in-Blocks.ensures.value)) c.page_of_blocks.ensures.rows)
