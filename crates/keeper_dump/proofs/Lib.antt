@@ -1,0 +1,4 @@
+pub mod DumpLaws
+pub mod PartLaws
+pub mod Ranges
+pub mod RowLaws

@@ -1,0 +1,16 @@
+//! The dump of the metadata tables: a list of bytes that tables are stored as, and read from again.
+#![tactic(auto)]
+
+mod fault;
+mod fields;
+mod laws;
+mod put_fields;
+mod reading;
+mod rows;
+mod table;
+mod writing;
+
+pub use fault::DumpFault;
+pub use laws::{dumps_read_back, made_dumps_are_short};
+pub use reading::read_dump;
+pub use writing::dump;
