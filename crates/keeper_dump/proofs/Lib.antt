@@ -1,4 +1,5 @@
 pub mod DumpLaws
+pub mod PageLaws
 pub mod PartLaws
 pub mod Ranges
 pub mod RowLaws

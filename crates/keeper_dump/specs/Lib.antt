@@ -1,3 +1,4 @@
 pub mod Dump
+pub mod Kept
 pub mod Part
 pub mod RowFields

@@ -3,7 +3,10 @@
 
 mod fault;
 mod fields;
+mod keeper_tables;
+mod kept_rows;
 mod laws;
+mod pages;
 mod put_fields;
 mod reading;
 mod rows;
@@ -11,6 +14,7 @@ mod table;
 mod writing;
 
 pub use fault::DumpFault;
+pub use keeper_tables::read_tables;
 pub use laws::{dumps_read_back, made_dumps_are_short};
 pub use reading::read_dump;
 pub use writing::dump;
