@@ -22,22 +22,23 @@ use Rattle.plain_tree.specs.WellFormed.{IsWellFormed}
 use Rattle.s3_rows.specs.declared.change.Change.{Change}
 use Rattle.s3_rows.specs.declared.change.Change.TheVariants as changes
 use Rattle.s3_rows.specs.Rows.{Inode, Name, Content}
-use Rattle.s3_rows.specs.Keyed.{put, without}
+use Rattle.s3_rows.specs.Keyed.{has_key, put, without}
 use Rattle.s3_rows.specs.Tables.{Tables, by_entry, by_inode, by_name}
 use Rattle.s3_rows.specs.Batches.{tables_after}
 use Rattle.s3_rows.specs.Selections.{inode_at, name_at, name_of_bytes, bytes_cmp}
 use Rattle.s3_rows.specs.Selections as selections
 use Rattle.s3_rows.specs.Validity.{IsValid, HasUniqueNames, is_directory}
-use Rattle.row_lemmas.proofs.Tests.{equal_from_is_eq, find_passes}
+use Rattle.row_lemmas.proofs.Tests.{equal_from_is_eq, find_passes, is_eq-nat_cmp}
 use Rattle.row_lemmas.proofs.Keyed.RowAt.{row_at_from_find}
 use Rattle.tree_rows.specs.Shapes.{Represents}
 use Rattle.tree_rows.proofs.Whole.{number_of}
 use Rattle.ref_counts.specs.Handles.{OpenHandles, HasHandles, is_held}
-use Rattle.ref_counts.specs.Names.{Raised, StaysUnique, other_than, raised, raised_of}
+use Rattle.ref_counts.specs.Names.{Raised, StaysUnique, raised, raised_of}
 use Rattle.ref_counts.specs.Plans.{IsNameWorn, IsStep, IsPlanOf}
 use Rattle.ref_counts.specs.declared.plan.Plan.{Plan}
 use Rattle.ref_counts.specs.declared.plan.Plan.TheVariants as plans
 use Rattle.ref_counts.proofs.Named.{delete_found, put_found}
+use Rattle.ref_counts.proofs.Overlay.{kept}
 use Rattle.row_steps.specs.RowChanges.{dropping, moving, other_name, replacing, same_name, touched_row}
 use Rattle.row_steps.proofs.Leaving.{HasUniqueNames-dropped, IsLeaving, name_is, named}
 use Rattle.dir_ops.specs.declared.moves.Move.{Move}
@@ -52,18 +53,19 @@ use Rattle.dir_ops.proofs.OldEntries.{child_parts, is_leaving, name_found, old_n
 -- ---- a name that is used once less leaves the others
 
 module _ (t : Tables) (v : IsValid t) (unique : HasUniqueNames t) (n : Name) (there : name_at t n.id ≡ Some n) (bytes : List ℕ) (other : is_eq (bytes_cmp n.name bytes) ≡ false) where
-  found_beside : other_than n.id (name_of_bytes t bytes) ≡ name_of_bytes t bytes
+  found_beside : kept by_name n.id (name_of_bytes t bytes) ≡ name_of_bytes t bytes
   found_beside = by_row (name_of_bytes t bytes) refl
     where
-      by_row : (found : Option Name) → name_of_bytes t bytes ≡ found → other_than n.id found ≡ found
+      by_row : (found : Option Name) → name_of_bytes t bytes ≡ found → kept by_name n.id found ≡ found
       by_row None is = refl
-      by_row (Some x) is = by_id (x.id == n.id) refl
+      by_row (Some x) is = by_id (has_key by_name n.id x) refl
         where
-          by_id : (b : Bool) → (x.id == n.id) ≡ b → cond b None (Some x) ≡ Some x
+          by_id : (b : Bool) → has_key by_name n.id x ≡ b → cond b None (Some x) ≡ Some x
           by_id false apart = refl
           by_id true alike =
               let own : name_at t x.id ≡ Some x = row_at_from_find by_name nat_cmp_total (λ (y : Name). is_eq (bytes_cmp y.name bytes)) t.names x v.ordered.names is in
-              let one : x ≡ n = cc (sym own ∙ ap (name_at t) (eqb-true x.id n.id alike) ∙ there) in
+              let same : n.id ≡ x.id = eqb-true n.id x.id (sym (is_eq-nat_cmp n.id x.id) ∙ alike) in
+              let one : x ≡ n = cc (sym own ∙ ap (name_at t) (sym same) ∙ there) in
               let clash : false ≡ true =
               sym other ∙ ap (λ (y : Name). is_eq (bytes_cmp y.name bytes)) (sym one) ∙ find_passes (λ (y : Name). is_eq (bytes_cmp y.name bytes)) t.names x is in
               absurd (cc clash)
@@ -80,11 +82,11 @@ module _ (t : Tables) (v : IsValid t) (unique : HasUniqueNames t) (n : Name) (th
 
     raised_beside : (b : Bool) → HasUniqueNames (tables_after (changed b) before) → raised (tables_after (changed b) before) bytes ≡ raised t bytes
     raised_beside true after =
-        ap (λ (found : Option Name). raised_of bytes found t.params) (sym (delete_found t n.id bytes (name_of_bytes t bytes) refl unique) ∙ found_beside)
+        ap (λ (found : Option Name). raised_of bytes found t.params) (sym (delete_found t n.id bytes unique) ∙ found_beside)
     raised_beside false after =
         ap (λ (found : Option Name). raised_of bytes found t.params)
-        (sym (put_found t lower bytes (name_of_bytes t bytes) refl v.ordered unique after)
-        ∙ ap (λ b. cond b (Some lower) (other_than n.id (name_of_bytes t bytes))) other ∙ found_beside)
+        (sym (put_found t lower bytes v.ordered unique after)
+        ∙ ap (λ b. cond b (Some lower) (kept by_name n.id (name_of_bytes t bytes))) other ∙ found_beside)
 
     pub raised-dropping : HasUniqueNames (tables_after (dropping d c n now) t) → raised (tables_after (dropping d c n now) t) bytes ≡ raised t bytes
     raised-dropping after = raised_beside (n.refcount == 1) after
