@@ -1,1 +1,2 @@
-
+pub mod DebtsLists
+pub mod DebtsTables
