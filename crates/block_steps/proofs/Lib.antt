@@ -1,2 +1,3 @@
+pub mod DebtsBlocks
 pub mod DebtsLists
 pub mod DebtsTables
