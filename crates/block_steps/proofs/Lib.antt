@@ -1,3 +1,4 @@
 pub mod DebtsBlocks
 pub mod DebtsLists
+pub mod DebtsPlaces
 pub mod DebtsTables
