@@ -1,4 +1,5 @@
 pub mod DebtsBlocks
 pub mod DebtsLists
+pub mod DebtsMade
 pub mod DebtsPlaces
 pub mod DebtsTables
