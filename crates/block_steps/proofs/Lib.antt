@@ -3,3 +3,5 @@ pub mod DebtsLists
 pub mod DebtsMade
 pub mod DebtsPlaces
 pub mod DebtsTables
+pub mod KeptNames
+pub mod KeptRows
