@@ -7,3 +7,4 @@ pub mod FormsOfBlocks
 pub mod KeptNames
 pub mod KeptRows
 pub mod RelinkedForms
+pub mod RelinkedPlaces

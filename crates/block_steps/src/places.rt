@@ -10,6 +10,9 @@ ghost use Rattle.tree_rows.specs.Spots.{form_at, form_of_row};
 ghost use Rattle.block_steps.specs.Owed.{AreRowsOf, KeepsNames, OwesPlaces};
 ghost use Rattle.block_steps.specs.Places.{Places, blocks_named, is_among_places, places_relinked};
 
+use crate::owed::{places_pay_for_their_blocks, tables_that_owe_no_places_are_valid};
+use crate::rows::changes_of_places_keep_names;
+
 /// Places within a file that name other blocks, where just these blocks are owed, leave valid tables with the same names. Each has
 /// the form of its block, and all other places keep theirs.
 pub fn relinked_places_leave_valid_tables()
@@ -24,4 +27,8 @@ pub fn relinked_places_leave_valid_tables()
     ensures elsewhere { (t : Tables) (p : Parameters) (inode other number : ℕ) (places : Places) → OwesPlaces t p (blocks_named places) → IsTrue (has_inode is_regular t inode)
         → IsTrue (list_all (λ place. is_in_file t p inode place.0) places) → is_among_places inode places other number ≡ false
         → form_at (tables_after (places_relinked inode places t) t) other number ≡ form_at t other number }
-{}
+{
+    changes_of_places_keep_names();
+    places_pay_for_their_blocks();
+    tables_that_owe_no_places_are_valid();
+}
