@@ -3,6 +3,7 @@ pub mod DebtsLists
 pub mod DebtsMade
 pub mod DebtsPlaces
 pub mod DebtsTables
+pub mod DroppedPlaces
 pub mod FormsOfBlocks
 pub mod KeptNames
 pub mod KeptRows

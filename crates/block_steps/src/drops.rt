@@ -8,6 +8,9 @@ ghost use Rattle.tree_rows.specs.Spots.{form_at};
 ghost use Rattle.block_steps.specs.Owed.{AreRowsOf, KeepsNames};
 ghost use Rattle.block_steps.specs.Places.{places_dropped, places_from};
 
+use crate::owed::{places_pay_for_their_blocks, tables_that_owe_no_places_are_valid};
+use crate::rows::changes_of_places_keep_names;
+
 /// Where the places of a file from one on name no block any more, valid tables stay valid with the same names. None of these places
 /// has a row then, and all other places keep their forms.
 pub fn dropped_places_leave_valid_tables()
@@ -18,4 +21,8 @@ pub fn dropped_places_leave_valid_tables()
         → IsTrue (list_all (λ r. not (r.inode == inode && nat_le from r.blockno)) (tables_after (places_dropped (places_from t inode from) t) t).inode_blocks) }
     ensures elsewhere { (t : Tables) (inode from other number : ℕ) → IsValid t → (other == inode && nat_le from number) ≡ false
         → form_at (tables_after (places_dropped (places_from t inode from) t) t) other number ≡ form_at t other number }
-{}
+{
+    changes_of_places_keep_names();
+    places_pay_for_their_blocks();
+    tables_that_owe_no_places_are_valid();
+}
