@@ -31,13 +31,16 @@ use Rattle.op_checks.proofs.Nodes.{node_check-row, lock_check-row}
 use Rattle.ref_counts.specs.Plans.{IsPlanOf, IsStep, LeavesRest, IsSmall}
 use Rattle.ref_counts.specs.Answers.{answer_plan, IsReplyOf}
 use Rattle.ref_counts.proofs.Idle.{IsWorn-nameless, IsPlanOf-idle, if_reply_of}
+use Rattle.ref_counts.proofs.Rest.{LeavesRest-LeavesBlocks}
 use Rattle.inode_ops.specs.Answers.{put_plan, IsChangedRow}
 
 -- ---- steps
 
 -- the other tables and all numbers are as before
 same_rest : (t : Tables) (rows : List Inode) → LeavesRest t (record t { inodes = rows })
-same_rest t rows = record { params = refl; next_inode = omega arith; next_name = omega arith; inode_blocks = refl; blocks = refl; objects = refl; slots = refl }
+same_rest t rows =
+    LeavesRest-LeavesBlocks t (record t { inodes = rows })
+    (record { params = refl; next_inode = omega arith; next_name = omega arith; inode_blocks = refl; blocks = refl; objects = refl; slots = refl })
 
 same_small : (t : Tables) (rows : List Inode) (drawn : ℕ) → IsSmall drawn t (record t { inodes = rows })
 same_small t rows drawn = record { names = omega arith; uses = omega arith }

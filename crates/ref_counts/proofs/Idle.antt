@@ -16,6 +16,7 @@ use Rattle.tree_rows.specs.Shapes.{Represents}
 use Rattle.ref_counts.specs.Answers.{IsReplyOf}
 use Rattle.ref_counts.specs.Plans.{IsPlanOf, IsStep, IsWorn, IsWornFor}
 use Rattle.ref_counts.specs.declared.plan.Plan.TheVariants as plans
+use Rattle.ref_counts.proofs.Rest.{LeavesRest-LeavesBlocks}
 
 -- no change is a step
 pub IsStep-same : (t : Tables) (next : Tree) (drawn : ℕ) → IsValid t → Represents t next → IsStep t t next drawn
@@ -23,7 +24,7 @@ IsStep-same t next drawn v same = record {
   valid = v;
   represents = same;
   unique = λ (u : HasUniqueNames t). u;
-  rest = record { params = refl; next_inode = omega arith; next_name = omega arith; inode_blocks = refl; blocks = refl; objects = refl; slots = refl };
+  rest = LeavesRest-LeavesBlocks t t (record { params = refl; next_inode = omega arith; next_name = omega arith; inode_blocks = refl; blocks = refl; objects = refl; slots = refl });
   small = record { names = omega arith; uses = omega arith };
 }
 

@@ -1,9 +1,10 @@
 -- What one more and one less place of a block makes of the tables, and what another block at a place does.
-use Rattle.std.specs.Prelude.{◌≡◌, ℕ, ◌+◌, ◌-◌, ◌^◌, ◌==◌, List, [], ◌∷◌, ◌++◌, Bool, true, false, nat_lt, Option, None, Some, if◌then◌else◌}
+use Rattle.std.specs.Prelude.{◌≡◌, ℕ, ◌+◌, ◌-◌, ◌^◌, ◌==◌, List, [], ◌∷◌, ◌++◌, Bool, true, false, ◌&&◌, nat_lt, nat_le, Option, None, Some, option_map, if◌then◌else◌, filter, find}
 use Rattle.s3_rows.specs.declared.change.Change.{Change}
 use Rattle.s3_rows.specs.declared.change.Change.TheVariants as changes
 use Rattle.s3_rows.specs.Rows.{InodeBlock, Block, Object}
 use Rattle.s3_rows.specs.Tables.{Tables}
+use Rattle.s3_rows.specs.Batches.{tables_after}
 use Rattle.s3_rows.specs.Selections.{inode_block_at, block_at, object_at}
 
 -- ---- one more
@@ -50,3 +51,30 @@ link_replaced t inode blockno new (Some old) = link_set inode blockno new ∷ lo
 -- A place names a block from now on, or none, and what it named has one place less. The new block has been counted before.
 abbrev pub relinked : Tables → ℕ → ℕ → Option ℕ → List Change
 relinked t inode blockno new = link_replaced t inode blockno new (inode_block_at t inode blockno)
+
+-- ---- the places of a file from one on
+
+abbrev pub is_place_from : ℕ → ℕ → InodeBlock → Bool
+is_place_from inode from r = r.inode == inode && nat_le from r.blockno
+
+abbrev pub places_from : Tables → ℕ → ℕ → List InodeBlock
+places_from t inode from = filter (is_place_from inode from) t.inode_blocks
+
+-- the number of the first of them
+abbrev pub next_place : Tables → ℕ → ℕ → Option ℕ
+next_place t inode from = option_map (λ r. r.blockno) (find (is_place_from inode from) t.inode_blocks)
+
+-- these places name no block any more, one after the other
+abbrev pub places_dropped : List InodeBlock → Tables → List Change
+places_dropped [] t = []
+places_dropped (r ∷ rs) t = relinked t r.inode r.blockno None ++ places_dropped rs (tables_after (relinked t r.inode r.blockno None) t)
+
+-- each block row has the digest, the size and the object of one that was there under its number
+abbrev pub AreRowsOf : Tables → Tables → Type 0
+AreRowsOf t after =
+    (id : ℕ) (r : Block) → block_at after id ≡ Some r
+    → (old : Block) × (block_at t id ≡ Some old) × (r.digest ≡ old.digest) × (r.size ≡ old.size) × (r.object ≡ old.object)
+
+-- all places of a file that goes, and none of one that is kept
+abbrev pub places_of_gone : Bool → Tables → ℕ → List Change
+places_of_gone kept t inode = if kept then [] else places_dropped (places_from t inode 0) t

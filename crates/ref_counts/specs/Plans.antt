@@ -1,5 +1,5 @@
 -- When the plan of an operation is right: the tree's own refusal, or a batch after which tables represent the tree's next.
-use Rattle.std.specs.Prelude.{◌≡◌, ◌⊎◌, ℕ, ◌+◌, ◌^◌, ◌≤◌, ◌==◌, List, [], length, Bool, true, false, ◌&&◌, IsTrue, Option, None, Some, option_map, unwrap_or}
+use Rattle.std.specs.Prelude.{◌≡◌, ◌⊎◌, ℕ, ◌+◌, ◌^◌, ◌≤◌, ◌==◌, List, [], length, Bool, true, false, ◌&&◌, IsTrue, Option, None, Some, option_map, unwrap_or, is_some}
 use Rattle.op_frames.specs.declared.operation.Op.{Op}
 use Rattle.op_frames.specs.declared.reply.Reply.{Reply}
 use Rattle.op_frames.specs.declared.reply.Reply.TheVariants as replies
@@ -14,6 +14,8 @@ use Rattle.s3_rows.specs.Batches.{tables_after}
 use Rattle.s3_rows.specs.Selections.{inode_at}
 use Rattle.s3_rows.specs.Validity.{IsValid, HasUniqueNames}
 use Rattle.tree_rows.specs.Shapes.{Represents}
+use Rattle.tree_rows.specs.Spots.{form_at}
+use Rattle.ref_counts.specs.Links.{AreRowsOf}
 use Rattle.ref_counts.specs.Names.{raised}
 use Rattle.ref_counts.specs.declared.plan.Plan.{Plan}
 use Rattle.ref_counts.specs.declared.plan.Plan.TheVariants as plans
@@ -33,15 +35,15 @@ uses_of t = length t.contents + length t.attrs
 abbrev pub settings : Parameters → Parameters
 settings p = record p { next_inode = 0; next_name = 0 }
 
--- What an operation on names and inodes leaves alone: settings, generations, blocks, objects and slots with their next numbers. No
--- next number falls, so no number is given twice.
+-- What an operation on names and inodes leaves alone: settings, generations, slots, and all next numbers but those of inodes and
+-- names, which do not fall, so no number is given twice. Each inode that has a row keeps the forms of its places, and no block
+-- comes: what goes are places of inodes that go, and blocks that have no place then.
 pub record LeavesRest (t after : Tables) : Type 0 where
   pub params : option_map settings after.params ≡ option_map settings t.params
   pub next_inode : next_inode_of t ≤ next_inode_of after
   pub next_name : next_name_of t ≤ next_name_of after
-  pub inode_blocks : after.inode_blocks ≡ t.inode_blocks
-  pub blocks : after.blocks ≡ t.blocks
-  pub objects : after.objects ≡ t.objects
+  pub forms : (inode blockno : ℕ) → IsTrue (is_some (inode_at after inode)) → form_at after inode blockno ≡ form_at t inode blockno
+  pub blocks : AreRowsOf t after
   pub slots : after.slots ≡ t.slots
 
 -- at most so many names more are drawn, and so many more used

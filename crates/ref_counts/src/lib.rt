@@ -9,6 +9,7 @@ mod links;
 mod lowered;
 mod names;
 mod pending;
+mod places;
 mod plan;
 mod removal;
 
@@ -17,5 +18,6 @@ pub use handles::{Handle, Handles};
 pub use links::{count_block, relink};
 pub use lowered::name_down;
 pub use names::name_up;
+pub use places::{drop_gone_links, drop_links};
 pub use plan::{Plan, answer};
 pub use removal::drop_file;

@@ -29,6 +29,7 @@ use Rattle.tree_rows.proofs.Validity.Tables.{IsValid_from_tree}
 use Rattle.tree_rows.proofs.Whole.{number_of}
 use Rattle.ref_counts.specs.Names.{Raised, lowered, raised}
 use Rattle.ref_counts.specs.Plans.{IsStep, next_inode_of, next_name_of, settings}
+use Rattle.ref_counts.proofs.Rest.{LeavesRest-LeavesBlocks}
 use Rattle.row_steps.specs.Owed.{Owes}
 use Rattle.row_steps.specs.RowChanges.{adding_attr, removing_attr, setting_attr, stamped_row}
 use Rattle.row_steps.proofs.Owed.Attrs.{Owes-put_attr_new, Owes-put_attr_there, Owes-without_attr}
@@ -115,7 +116,7 @@ module _ (t : Tables) (whole : Tree) (p : Parameters) (r : Inode) (name : List â
           valid = IsValid_from_tree added next (HasPremises-Owes added (record p { next_name = raise.next }) owes_added) represents_added well;
           represents = represents_added;
           unique = Î» unique. raise.unique unique;
-          rest = record {
+          rest = LeavesRest-LeavesBlocks t added (record {
             params = sym (ap (option_map settings) made);
             next_inode = omega (arith, inode);
             next_name = omega (arith, id, raise.least);
@@ -123,7 +124,7 @@ module _ (t : Tables) (whole : Tree) (p : Parameters) (r : Inode) (name : List â
             blocks = refl;
             objects = refl;
             slots = refl;
-          };
+          });
           small = record { names = omega (arith, id, raise.most); uses = omega (arith, longer) };
         } in
         subst (Î» (u : Tables). IsStep t u next 1) (sym added_is) step
@@ -159,7 +160,7 @@ module _ (t : Tables) (whole : Tree) (p : Parameters) (r : Inode) (name : List â
             valid = IsValid_from_tree set next (HasPremises-Owes set p owes_set) represents_set well;
             represents = represents_set;
             unique = Î» unique. unique;
-            rest = record { params = refl; next_inode = omega arith; next_name = omega arith; inode_blocks = refl; blocks = refl; objects = refl; slots = refl };
+            rest = LeavesRest-LeavesBlocks t set (record { params = refl; next_inode = omega arith; next_name = omega arith; inode_blocks = refl; blocks = refl; objects = refl; slots = refl });
             small = record { names = omega arith; uses = omega (arith, as_long) };
           }
 
@@ -198,7 +199,7 @@ module _ (t : Tables) (whole : Tree) (p : Parameters) (r : Inode) (name : List â
           valid = IsValid_from_tree gone next (HasPremises-Owes gone p lower.owes) represents_gone well;
           represents = represents_gone;
           unique = Î» unique. lower.unique unique;
-          rest = record { params = refl; next_inode = omega arith; next_name = omega arith; inode_blocks = refl; blocks = refl; objects = refl; slots = refl };
+          rest = LeavesRest-LeavesBlocks t gone (record { params = refl; next_inode = omega arith; next_name = omega arith; inode_blocks = refl; blocks = refl; objects = refl; slots = refl });
           small = record { names = omega arith; uses = omega (arith, shorter) };
         } in
         subst (Î» (u : Tables). IsStep t u next 0) (sym lower.after) step

@@ -17,7 +17,8 @@ use Rattle.tree_rows.specs.Shapes.{Represents}
 use Rattle.tree_rows.proofs.Listed.{is_entry}
 use Rattle.tree_rows.proofs.Validity.Tables.{IsValid_from_tree}
 use Rattle.ref_counts.specs.Names.{Raised, raised}
-use Rattle.ref_counts.specs.Plans.{IsSmall, IsStep, LeavesRest, next_inode_of, next_name_of, settings}
+use Rattle.ref_counts.specs.Plans.{IsSmall, IsStep, next_inode_of, next_name_of, settings}
+use Rattle.ref_counts.proofs.Rest.{LeavesBlocks, LeavesRest-LeavesBlocks}
 use Rattle.row_steps.specs.Owed.{Owes}
 use Rattle.row_steps.specs.RowChanges.{entering}
 use Rattle.row_steps.proofs.Entering.{HasUniqueNames-entering, Owes-entering, Represents-entering, after, after_is, entry, free_after, named, raise}
@@ -26,7 +27,7 @@ use Rattle.row_steps.proofs.Owed.Ends.{HasPremises-Owes}
 
 -- what the changes before the entry leave alone: they take no name
 pub record IsStart (before t : Tables) : Type 0 where
-  pub rest : LeavesRest before t
+  pub rest : LeavesBlocks before t
   pub small : IsSmall 0 before t
   pub unique : HasUniqueNames before → HasUniqueNames t
 
@@ -48,7 +49,7 @@ module _ (before t : Tables) (p : Parameters) (d : Inode) (more : Raised) (name 
   next_name_is : next_name_of t ≡ p.next_name
   next_name_is = ap (λ (found : Option Parameters). unwrap_or (option_map (λ q. q.next_name) found) 0) o.made
 
-  rest_after : LeavesRest before entered
+  rest_after : LeavesBlocks before entered
   rest_after =
       let raised_name = raise t p d more name inode now [] [] o refl used there kind free not_root number in
       record {
@@ -85,6 +86,6 @@ module _ (before t : Tables) (p : Parameters) (d : Inode) (more : Raised) (name 
         represents = represents;
         unique =
             λ unique. HasUniqueNames-entering t p d more name inode now [] [] o refl used there kind free not_root number (start.unique unique);
-        rest = subst (λ (u : Tables). LeavesRest before u) (sym entered_is) rest_after;
+        rest = LeavesRest-LeavesBlocks before (tables_after (entering d more inode now) t) (subst (λ (u : Tables). LeavesBlocks before u) (sym entered_is) rest_after);
         small = subst (λ (u : Tables). IsSmall 1 before u) (sym entered_is) small_after;
       }

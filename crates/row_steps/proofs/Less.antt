@@ -9,6 +9,7 @@ use Rattle.s3_rows.specs.Validity.{HasUniqueNames}
 use Rattle.tree_rows.specs.Shapes.{Represents}
 use Rattle.tree_rows.proofs.Validity.Tables.{IsValid_from_tree}
 use Rattle.ref_counts.specs.Plans.{IsStep, next_inode_of, next_name_of, settings}
+use Rattle.ref_counts.proofs.Rest.{LeavesRest-LeavesBlocks}
 use Rattle.row_steps.specs.Owed.{Owes}
 use Rattle.row_steps.proofs.Owed.Ends.{HasPremises-Owes}
 
@@ -32,7 +33,7 @@ IsStep-less t u next p o same well unique less =
       valid = IsValid_from_tree u next (HasPremises-Owes u p o) same well;
       represents = same;
       unique = unique;
-      rest = record {
+      rest = LeavesRest-LeavesBlocks t u (record {
         params = ap (option_map settings) less.params;
         next_inode = omega (arith, inode);
         next_name = omega (arith, id);
@@ -40,7 +41,7 @@ IsStep-less t u next p o same well unique less =
         blocks = less.blocks;
         objects = less.objects;
         slots = less.slots;
-      };
+      });
       small = record { names = omega (arith, id); uses = omega (arith, less.contents, less.attrs) };
     }
 

@@ -21,6 +21,7 @@ use Rattle.tree_rows.specs.Shapes.{Represents}
 use Rattle.tree_rows.proofs.Validity.Tables.{IsValid_from_tree}
 use Rattle.ref_counts.specs.Names.{Raised, lowered, raised}
 use Rattle.ref_counts.specs.Plans.{IsStep, next_inode_of, next_name_of, settings}
+use Rattle.ref_counts.proofs.Rest.{LeavesRest-LeavesBlocks}
 use Rattle.row_steps.specs.Owed.{Owes}
 use Rattle.row_steps.specs.RowChanges.{dropping, moving, other_name, same_name, stamped_row, touched_row}
 use Rattle.row_steps.proofs.Dropping.{Represents-touched, id_is, lower, owes_both}
@@ -178,7 +179,7 @@ module _ (t : Tables) (whole : Tree) (p : Parameters) (d d2 r : Inode) (c : Cont
           valid = IsValid_from_tree after next (HasPremises-Owes after (record p { next_name = raise.next }) both.0) both.1 well;
           represents = both.1;
           unique = λ unique. raise.unique (less.unique unique);
-          rest = record {
+          rest = LeavesRest-LeavesBlocks t after (record {
             params = sym (ap (option_map settings) is.leaving.params);
             next_inode = omega (arith, inode);
             next_name = omega (arith, id, raise.least);
@@ -186,6 +187,6 @@ module _ (t : Tables) (whole : Tree) (p : Parameters) (d d2 r : Inode) (c : Cont
             blocks = refl;
             objects = refl;
             slots = refl;
-          };
+          });
           small = record { names = omega (arith, id, raise.most); uses = omega (arith, fewer raise.row.id) };
         })

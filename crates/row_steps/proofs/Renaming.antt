@@ -20,6 +20,7 @@ use Rattle.tree_laws.proofs.WellFormed.{IsWellFormed-effect}
 use Rattle.tree_rows.specs.Shapes.{Represents}
 use Rattle.ref_counts.specs.Names.{Raised, raised}
 use Rattle.ref_counts.specs.Plans.{IsStep}
+use Rattle.ref_counts.proofs.Rest.{LeavesRest-LeavesBlocks}
 use Rattle.row_steps.specs.RowChanges.{dropping, moving, other_name, replacing, same_name}
 use Rattle.row_steps.proofs.Leaving.{IsLeaving, entry_is}
 use Rattle.row_steps.proofs.MovedNames.{IsStep-other_name, IsStep-same_name}
@@ -37,7 +38,7 @@ itself_step t whole pass parent new_parent now name new_name v same one =
       valid = v;
       represents = same;
       unique = λ unique. unique;
-      rest = record {
+      rest = LeavesRest-LeavesBlocks t t (record {
         params = refl;
         next_inode = omega arith;
         next_name = omega arith;
@@ -45,7 +46,7 @@ itself_step t whole pass parent new_parent now name new_name v same one =
         blocks = refl;
         objects = refl;
         slots = refl;
-      };
+      });
       small = record { names = omega arith; uses = omega arith };
     })
 
