@@ -1,22 +1,27 @@
 -- Places that name no block any more, one after the other.
-use Rattle.std.proofs.Common.{◌≡◌, ℕ, List, [], ◌∷◌, Bool, true, false, cond, not, Option, None, Some, IsTrue, refl, sym, ap, ◌∙◌, subst}
+use Rattle.std.proofs.Common.{◌≡◌, ℕ, ◌-◌, List, [], ◌∷◌, Bool, true, false, cond, not, Option, None, Some, IsTrue, refl, sym, ap, ◌∙◌, subst}
 use Rattle.std.specs.Prelude.{◌==◌, ◌&&◌, ◌||◌, filter, nat_le}
 use Rattle.std.specs.List.{list_all, list_any}
 use Rattle.std.specs.Ordering.{is_eq}
 use Rattle.std.specs.Cmp.{IsTotalOrder}
 use Rattle.std.proofs.lemmas.Bool.{and_from, and_parts, or_left, or_right}
-use Rattle.s3_rows.specs.Rows.{InodeBlock, Parameters}
+use Rattle.s3_rows.specs.declared.change.Change.TheVariants as changes
+use Rattle.s3_rows.specs.Rows.{Block, InodeBlock, Object, Parameters}
 use Rattle.s3_rows.specs.Keyed.{Order, has_key, pair_cmp, without}
 use Rattle.s3_rows.specs.Tables.{Tables, by_spot}
-use Rattle.s3_rows.specs.Batches.{tables_after}
+use Rattle.s3_rows.specs.Batches.{after_change, tables_after}
+use Rattle.s3_rows.specs.Selections.{block_at, inode_block_at, object_at}
 use Rattle.s3_rows.specs.Validity.{IsValid}
 use Rattle.row_lemmas.proofs.Tables.{pair_cmp_total, tables_after-tables_after}
 use Rattle.row_lemmas.proofs.Tests.{false_from_not, list_all-filter, list_all-filter_same, list_all_weaker, list_all_weaker_both}
 use Rattle.row_lemmas.proofs.Keyed.RowAt.{has_key_same}
 use Rattle.tree_rows.specs.Spots.{form_at}
-use Rattle.ref_counts.specs.Links.{relinked}
-use Rattle.block_steps.specs.Owed.{OwesPlaces}
-use Rattle.block_steps.specs.Places.{places_dropped, places_from}
+use Rattle.ref_counts.specs.Links.{AreRowsOf, link_replaced, link_set, lowered_block, lowered_object, places_dropped, places_from, relinked}
+use Rattle.ref_counts.proofs.Rest.{AreRowsOf-same}
+use Rattle.block_steps.specs.Owed.{KeepsNames, OwesPlaces}
+use Rattle.block_steps.proofs.DebtsPlaces.{OwesPlaces-dropped}
+use Rattle.block_steps.proofs.DebtsTables.{IsValid-OwesPlaces, OwesPlaces-IsValid}
+use Rattle.block_steps.proofs.KeptNames.{AreRowsOf-relinked, AreRowsOf-trans, KeepsNames-refl, KeepsNames-relinked, KeepsNames-trans}
 use Rattle.block_steps.proofs.RelinkedForms.{form_at-relinked_other, inode_blocks-relinked, is_eq-pair_cmp_other}
 
 -- ---- rows of which each of a list goes by its key
@@ -109,45 +114,76 @@ kept-places_dropped P same joined each (r ∷ rs) t =
     subst (P t) (tables_after-tables_after first (places_dropped rs now) t)
     (joined t now (tables_after (places_dropped rs now) now) (each t r.inode r.blockno None) (kept-places_dropped P same joined each rs now))
 
+pub KeepsNames-places_dropped : (rows : List InodeBlock) (t : Tables) → KeepsNames t (tables_after (places_dropped rows t) t)
+KeepsNames-places_dropped rows t = kept-places_dropped KeepsNames KeepsNames-refl KeepsNames-trans KeepsNames-relinked rows t
+
+pub AreRowsOf-places_dropped : (rows : List InodeBlock) (t : Tables) → AreRowsOf t (tables_after (places_dropped rows t) t)
+AreRowsOf-places_dropped rows t = kept-places_dropped AreRowsOf (λ t. AreRowsOf-same t t refl) AreRowsOf-trans AreRowsOf-relinked rows t
+
+abbrev has_params_of : Tables → Tables → Type 0
+has_params_of t after = after.params ≡ t.params
+
+params-relinked : (t : Tables) (inode blockno : ℕ) (block : Option ℕ) → has_params_of t (tables_after (relinked t inode blockno block) t)
+params-relinked t inode blockno block = by_place (inode_block_at t inode blockno) block
+  where
+    of_objects : (found : Option Object) (u : Tables) → (tables_after (lowered_object found) u).params ≡ u.params
+    of_objects None u = refl
+    of_objects (Some o) u = refl
+
+    of_blocks : (now : Tables) (found : Option Block) (u : Tables) → (tables_after (lowered_block now found) u).params ≡ u.params
+    of_blocks now None u = refl
+    of_blocks now (Some b) u = by_count (b.refcount == 1)
+      where
+        by_count : (last : Bool) → (tables_after (cond last (changes.DeleteBlock b.id ∷ lowered_object (object_at now b.object)) (changes.PutBlock (record b { refcount = b.refcount - 1 }) ∷ [])) u).params ≡ u.params
+        by_count true = of_objects (object_at now b.object) (after_change (changes.DeleteBlock b.id) u)
+        by_count false = refl
+
+    by_place : (found : Option InodeBlock) (new : Option ℕ) → has_params_of t (tables_after (link_replaced t inode blockno new found) t)
+    by_place None None = refl
+    by_place None (Some id) = refl
+    by_place (Some old) None = of_blocks t (block_at t old.block) (after_change (link_set inode blockno None) t)
+    by_place (Some old) (Some id) = of_blocks t (block_at t old.block) (after_change (link_set inode blockno (Some id)) t)
+
+pub params-places_dropped : (rows : List InodeBlock) (t : Tables) → (tables_after (places_dropped rows t) t).params ≡ t.params
+params-places_dropped rows t = kept-places_dropped has_params_of (λ t. refl) (λ t middle after first second. second ∙ first) params-relinked rows t
+
 -- ---- counts and forms
 
-module _ (pays : (t : Tables) (p : Parameters) (inode blockno : ℕ) (blocks : List ℕ) → OwesPlaces t p blocks
-    → OwesPlaces (tables_after (relinked t inode blockno None) t) p blocks) where
-  pub OwesPlaces-places_dropped : (p : Parameters) (owed : List ℕ) (rows : List InodeBlock) (t : Tables) → OwesPlaces t p owed
-      → OwesPlaces (tables_after (places_dropped rows t) t) p owed
-  OwesPlaces-places_dropped p owed [] t o = o
-  OwesPlaces-places_dropped p owed (r ∷ rs) t o =
-      let first = relinked t r.inode r.blockno None in
-      let now = tables_after first t in
-      subst (λ (u : Tables). OwesPlaces u p owed) (tables_after-tables_after first (places_dropped rs now) t)
-      (OwesPlaces-places_dropped p owed rs now (pays t p r.inode r.blockno owed o))
+pub OwesPlaces-places_dropped : (p : Parameters) (owed : List ℕ) (rows : List InodeBlock) (t : Tables) → OwesPlaces t p owed
+    → OwesPlaces (tables_after (places_dropped rows t) t) p owed
+OwesPlaces-places_dropped p owed [] t o = o
+OwesPlaces-places_dropped p owed (r ∷ rs) t o =
+    let first = relinked t r.inode r.blockno None in
+    let now = tables_after first t in
+    subst (λ (u : Tables). OwesPlaces u p owed) (tables_after-tables_after first (places_dropped rs now) t)
+    (OwesPlaces-places_dropped p owed rs now (OwesPlaces-dropped t p r.inode r.blockno owed o))
 
-  form_at-places_dropped : (p : Parameters) (owed : List ℕ) (other number : ℕ) (rows : List InodeBlock) (t : Tables) → OwesPlaces t p owed
-      → IsTrue (list_all (λ (r : InodeBlock). not (is_eq (pair_cmp (other, number) (r.inode, r.blockno)))) rows)
-      → form_at (tables_after (places_dropped rows t) t) other number ≡ form_at t other number
-  form_at-places_dropped p owed other number [] t o apart = refl
-  form_at-places_dropped p owed other number (r ∷ rs) t o apart =
-      let first = relinked t r.inode r.blockno None in
-      let now = tables_after first t in
-      let parts = and_parts (not (is_eq (pair_cmp (other, number) (r.inode, r.blockno)))) (list_all (λ (x : InodeBlock). not (is_eq (pair_cmp (other, number) (x.inode, x.blockno)))) rs) apart in
-      ap (λ (u : Tables). form_at u other number) (sym (tables_after-tables_after first (places_dropped rs now) t))
-      ∙ form_at-places_dropped p owed other number rs now (pays t p r.inode r.blockno owed o) parts.1
-      ∙ form_at-relinked_other t p owed o r.inode r.blockno None other number (false_from_not (is_eq (pair_cmp (other, number) (r.inode, r.blockno))) parts.0)
+form_at-places_dropped : (p : Parameters) (owed : List ℕ) (other number : ℕ) (rows : List InodeBlock) (t : Tables) → OwesPlaces t p owed
+    → IsTrue (list_all (λ (r : InodeBlock). not (is_eq (pair_cmp (other, number) (r.inode, r.blockno)))) rows)
+    → form_at (tables_after (places_dropped rows t) t) other number ≡ form_at t other number
+form_at-places_dropped p owed other number [] t o apart = refl
+form_at-places_dropped p owed other number (r ∷ rs) t o apart =
+    let first = relinked t r.inode r.blockno None in
+    let now = tables_after first t in
+    let parts = and_parts (not (is_eq (pair_cmp (other, number) (r.inode, r.blockno)))) (list_all (λ (x : InodeBlock). not (is_eq (pair_cmp (other, number) (x.inode, x.blockno)))) rs) apart in
+    ap (λ (u : Tables). form_at u other number) (sym (tables_after-tables_after first (places_dropped rs now) t))
+    ∙ form_at-places_dropped p owed other number rs now (OwesPlaces-dropped t p r.inode r.blockno owed o) parts.1
+    ∙ form_at-relinked_other t p owed o r.inode r.blockno None other number (false_from_not (is_eq (pair_cmp (other, number) (r.inode, r.blockno))) parts.0)
 
-  -- places of other files and those before keep their forms
-  pub form_at-places_from : (t : Tables) (p : Parameters) (inode from other number : ℕ) → OwesPlaces t p [] → (other == inode && nat_le from number) ≡ false
-      → form_at (tables_after (places_dropped (places_from t inode from) t) t) other number ≡ form_at t other number
-  form_at-places_from t p inode from other number o outside =
-      form_at-places_dropped p [] other number (places_from t inode from) t o
-      (list_all_weaker goes (λ (r : InodeBlock). not (is_eq (pair_cmp (other, number) (r.inode, r.blockno))))
-      (λ r is. ap not (is_eq-pair_cmp_other (other, number) (r.inode, r.blockno)
-      (λ first second. let clash : true ≡ false = sym is ∙ ap (λ (n : ℕ). n == inode && nat_le from r.blockno) (sym first) ∙ ap (λ (n : ℕ). other == inode && nat_le from n) (sym second) ∙ outside in
-      cc clash))) (places_from t inode from) (list_all-filter_same goes t.inode_blocks))
-    where
-      goes : InodeBlock → Bool
-      goes r = r.inode == inode && nat_le from r.blockno
+-- places of other files and those before keep their forms
+pub form_at-places_from : (t : Tables) (p : Parameters) (inode from other number : ℕ) → OwesPlaces t p [] → (other == inode && nat_le from number) ≡ false
+    → form_at (tables_after (places_dropped (places_from t inode from) t) t) other number ≡ form_at t other number
+form_at-places_from t p inode from other number o outside =
+    form_at-places_dropped p [] other number (places_from t inode from) t o
+    (list_all_weaker goes (λ (r : InodeBlock). not (is_eq (pair_cmp (other, number) (r.inode, r.blockno))))
+    (λ r is. ap not (is_eq-pair_cmp_other (other, number) (r.inode, r.blockno)
+    (λ first second. let clash : true ≡ false = sym is ∙ ap (λ (n : ℕ). n == inode && nat_le from r.blockno) (sym first) ∙ ap (λ (n : ℕ). other == inode && nat_le from n) (sym second) ∙ outside in
+    cc clash))) (places_from t inode from) (list_all-filter_same goes t.inode_blocks))
+  where
+    goes : InodeBlock → Bool
+    goes r = r.inode == inode && nat_le from r.blockno
 
-  pub IsValid-places_dropped : ((t : Tables) (p : Parameters) → IsValid t → t.params ≡ Some p → OwesPlaces t p []) → ((t : Tables) (p : Parameters) → OwesPlaces t p [] → IsValid t)
-      → (rows : List InodeBlock) (t : Tables) → IsValid t → IsValid (tables_after (places_dropped rows t) t)
-  IsValid-places_dropped owes back rows t valid =
-      back (tables_after (places_dropped rows t) t) valid.params (OwesPlaces-places_dropped valid.params [] rows t (owes t valid.params valid valid.is_made))
+pub IsValid-places_dropped : (rows : List InodeBlock) (t : Tables) → IsValid t → IsValid (tables_after (places_dropped rows t) t)
+IsValid-places_dropped rows t valid =
+    IsValid-OwesPlaces (tables_after (places_dropped rows t) t) valid.params
+    (OwesPlaces-places_dropped valid.params [] rows t (OwesPlaces-IsValid t valid.params valid valid.is_made))

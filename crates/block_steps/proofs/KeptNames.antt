@@ -17,8 +17,8 @@ use Rattle.row_lemmas.proofs.Keyed.Put.{row_at-put}
 use Rattle.row_lemmas.proofs.Keyed.RowAt.{row_at_key}
 use Rattle.row_lemmas.proofs.Keyed.Without.{row_at-without}
 use Rattle.tree_rows.specs.Shapes.{Represents, shape_of_tables}
-use Rattle.ref_counts.specs.Links.{counted_block, link_replaced, link_set, lowered_block, lowered_object, relinked}
-use Rattle.block_steps.specs.Owed.{AreRowsOf, KeepsNames, next_block_of, without_next_block}
+use Rattle.ref_counts.specs.Links.{counted_block, link_replaced, link_set, lowered_block, lowered_object, relinked, AreRowsOf}
+use Rattle.block_steps.specs.Owed.{KeepsNames, next_block_of, without_next_block}
 use Rattle.block_steps.specs.Places.{block_made}
 use Rattle.block_steps.proofs.DebtsBlocks.{one_number}
 

@@ -11,7 +11,7 @@ use Rattle.s3_rows.specs.Tables.{IsOrdered, Tables, by_block}
 use Rattle.row_lemmas.proofs.Keyed.RowAt.{row_at_meets, row_at_own}
 use Rattle.tree_rows.specs.Contents.{Contents, HaveBytes, bytes_of}
 use Rattle.core_model.specs.Safe.{HaveHeld, Held}
-use Rattle.block_steps.specs.Owed.{AreRowsOf}
+use Rattle.ref_counts.specs.Links.{AreRowsOf}
 
 -- ---- a fact of every block
 

@@ -15,7 +15,7 @@ use Rattle.row_lemmas.proofs.Tests.{false_from_not}
 use Rattle.tree_rows.specs.Spots.{form_at, form_of_row}
 use Rattle.core_model.proofs.Elements.{Contains-none, Contains-cases}
 use Rattle.ref_counts.specs.Links.{relinked}
-use Rattle.block_steps.specs.Owed.{AreRowsOf, KeepsNames, OwesPlaces, is_owed}
+use Rattle.block_steps.specs.Owed.{KeepsNames, OwesPlaces, is_owed}
 use Rattle.block_steps.specs.Places.{Places, blocks_named, is_among_places, places_relinked}
 use Rattle.block_steps.proofs.RelinkedForms.{form_at-relinked_none, form_at-relinked_other, form_at-relinked_same, form_of_row-relinked_owed, is_eq-pair_cmp_other, is_owed_first, is_owed_more}
 
@@ -168,7 +168,3 @@ kept-places_relinked P same joined each t inode (place ∷ places) =
     let now = tables_after first t in
     subst (P t) (tables_after-tables_after first (places_relinked inode places now) t)
     (joined t now (tables_after (places_relinked inode places now) now) (each t inode place.0 place.1) (kept-places_relinked P same joined each now inode places))
-
--- each row of a block is its own
-pub AreRowsOf-same : (t : Tables) → AreRowsOf t t
-AreRowsOf-same t id r there = (r, there, refl, refl, refl)

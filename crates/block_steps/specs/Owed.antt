@@ -1,5 +1,5 @@
 -- Tables on the way of a change of files: how far the counts of blocks are ahead of the places that name them.
-use Rattle.std.specs.Prelude.{◌≡◌, ℕ, ◌+◌, ◌==◌, ◌≤◌, List, Bool, not, ◌&&◌, nat_le, IsTrue, Option, Some, is_some, option_map, unwrap_or, count_by}
+use Rattle.std.specs.Prelude.{◌≡◌, ℕ, ◌+◌, ◌==◌, ◌≤◌, List, Bool, ◌&&◌, nat_le, IsTrue, Some, is_some, option_map, unwrap_or, count_by}
 use Rattle.std.specs.List.{list_all, list_any}
 use Rattle.s3_rows.specs.Rows.{Block, Parameters}
 use Rattle.s3_rows.specs.Tables.{Tables, IsOrdered}
@@ -55,9 +55,3 @@ pub record KeepsNames (t after : Tables) : Type 0 where
   pub targets : after.targets ≡ t.targets
   pub attrs : after.attrs ≡ t.attrs
   pub slots : after.slots ≡ t.slots
-
--- each block row has the digest, the size and the object of one that was there under its number
-abbrev pub AreRowsOf : Tables → Tables → Type 0
-AreRowsOf t after =
-    (id : ℕ) (r : Block) → block_at after id ≡ Some r
-    → (old : Block) × (block_at t id ≡ Some old) × (r.digest ≡ old.digest) × (r.size ≡ old.size) × (r.object ≡ old.object)

@@ -1,10 +1,10 @@
 -- A block that comes, and places that name other blocks.
-use Rattle.std.specs.Prelude.{ℕ, ◌+◌, ◌==◌, List, [], ◌∷◌, ◌++◌, Bool, ◌&&◌, nat_le, Option, None, Some, filter}
+use Rattle.std.specs.Prelude.{ℕ, ◌+◌, ◌==◌, List, [], ◌∷◌, ◌++◌, Bool, ◌&&◌, Option, Some}
 use Rattle.std.specs.List.{filter_map, list_any}
 use Rattle.s3_rows.specs.declared.change.Change.{Change}
 use Rattle.s3_rows.specs.declared.change.Change.TheVariants as changes
 use Rattle.s3_rows.specs.declared.digest.Digest.{Digest}
-use Rattle.s3_rows.specs.Rows.{InodeBlock, Parameters}
+use Rattle.s3_rows.specs.Rows.{Parameters}
 use Rattle.s3_rows.specs.Tables.{Tables}
 use Rattle.s3_rows.specs.Batches.{tables_after}
 use Rattle.ref_counts.specs.Links.{relinked}
@@ -41,13 +41,3 @@ abbrev pub places_relinked : ℕ → Places → Tables → List Change
 places_relinked inode [] t = []
 places_relinked inode (place ∷ places) t =
     relinked t inode place.0 place.1 ++ places_relinked inode places (tables_after (relinked t inode place.0 place.1) t)
-
--- ---- the places of a file from one on
-
-abbrev pub places_from : Tables → ℕ → ℕ → List InodeBlock
-places_from t inode from = filter (λ r. r.inode == inode && nat_le from r.blockno) t.inode_blocks
-
--- these places name no block any more, one after the other
-abbrev pub places_dropped : List InodeBlock → Tables → List Change
-places_dropped [] t = []
-places_dropped (r ∷ rs) t = relinked t r.inode r.blockno None ++ places_dropped rs (tables_after (relinked t r.inode r.blockno None) t)

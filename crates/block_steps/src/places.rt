@@ -7,7 +7,8 @@ ghost use Rattle.s3_rows.specs.Batches.{tables_after};
 ghost use Rattle.s3_rows.specs.Selections.{block_at};
 ghost use Rattle.s3_rows.specs.Validity.{IsValid, differ, has_inode, is_in_file, is_regular};
 ghost use Rattle.tree_rows.specs.Spots.{form_at, form_of_row};
-ghost use Rattle.block_steps.specs.Owed.{AreRowsOf, KeepsNames, OwesPlaces};
+ghost use Rattle.ref_counts.specs.Links.{AreRowsOf};
+ghost use Rattle.block_steps.specs.Owed.{KeepsNames, OwesPlaces};
 ghost use Rattle.block_steps.specs.Places.{Places, blocks_named, is_among_places, places_relinked};
 
 use crate::owed::{places_pay_for_their_blocks, tables_that_owe_no_places_are_valid};

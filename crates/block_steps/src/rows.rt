@@ -12,8 +12,8 @@ ghost use Rattle.s3_rows.specs.Validity.{HasUniqueNames};
 ghost use Rattle.tree_rows.specs.Contents.{Contents, HaveBytes};
 ghost use Rattle.tree_rows.specs.Shapes.{Represents};
 ghost use Rattle.core_model.specs.Safe.{HaveHeld, Held};
-ghost use Rattle.ref_counts.specs.Links.{counted_block, relinked};
-ghost use Rattle.block_steps.specs.Owed.{AreRowsOf, KeepsNames};
+ghost use Rattle.ref_counts.specs.Links.{counted_block, relinked, AreRowsOf};
+ghost use Rattle.block_steps.specs.Owed.{KeepsNames};
 ghost use Rattle.block_steps.specs.Places.{block_made};
 
 /// Each change of places keeps the names, and where it makes no block, each block row is one that was there.

@@ -23,7 +23,7 @@ form_at-same t after inode blockno links blocks =
     ap (λ (rows : List InodeBlock). form_at (record after { inode_blocks = rows }) inode blockno) links
     ∙ ap (λ (rows : List Block). form_at (record after { inode_blocks = t.inode_blocks; blocks = rows }) inode blockno) blocks
 
-AreRowsOf-same : (t after : Tables) → after.blocks ≡ t.blocks → AreRowsOf t after
+pub AreRowsOf-same : (t after : Tables) → after.blocks ≡ t.blocks → AreRowsOf t after
 AreRowsOf-same t after same id r there = (r, sym (ap (row_at by_block id) same) ∙ there, refl, refl, refl)
 
 pub LeavesRest-LeavesBlocks : (t after : Tables) → LeavesBlocks t after → LeavesRest t after

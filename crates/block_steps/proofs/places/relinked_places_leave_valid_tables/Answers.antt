@@ -1,5 +1,8 @@
-use Rattle.block_steps.specs.Owed.{AreRowsOf, KeepsNames}
-use Rattle.block_steps.proofs.RelinkedPlaces.{AreRowsOf-same, IsValid-places_relinked, kept-places_relinked, form_at-places_relinked, form_at-places_relinked_other}
+use Rattle.std.proofs.Common.{refl}
+use Rattle.ref_counts.specs.Links.{AreRowsOf}
+use Rattle.ref_counts.proofs.Rest.{AreRowsOf-same}
+use Rattle.block_steps.specs.Owed.{KeepsNames}
+use Rattle.block_steps.proofs.RelinkedPlaces.{IsValid-places_relinked, kept-places_relinked, form_at-places_relinked, form_at-places_relinked_other}
 use Rattle.block_steps.proofs.places.relinked_places_leave_valid_tables.Goals as goal
 
 pub returns-clause-valid : goal.returns-clause-valid
@@ -14,7 +17,7 @@ returns-clause-names c =
 
 pub returns-clause-rows : goal.returns-clause-rows
 returns-clause-rows c =
-    kept-places_relinked AreRowsOf AreRowsOf-same c.changes_of_places_keep_names.ensures.joined_rows c.changes_of_places_keep_names.ensures.relinked_rows
+    kept-places_relinked AreRowsOf (λ t. AreRowsOf-same t t refl) c.changes_of_places_keep_names.ensures.joined_rows c.changes_of_places_keep_names.ensures.relinked_rows
 
 pub returns-clause-forms : goal.returns-clause-forms
 returns-clause-forms c =
