@@ -1,5 +1,6 @@
 -- What one more and one less place of a block makes of the tables, and what another block at a place does.
 use Rattle.std.specs.Prelude.{◌≡◌, ℕ, ◌+◌, ◌-◌, ◌^◌, ◌==◌, List, [], ◌∷◌, ◌++◌, Bool, true, false, ◌&&◌, nat_lt, nat_le, Option, None, Some, option_map, if◌then◌else◌, filter, find}
+use Rattle.std.specs.List.{flat_map}
 use Rattle.s3_rows.specs.declared.change.Change.{Change}
 use Rattle.s3_rows.specs.declared.change.Change.TheVariants as changes
 use Rattle.s3_rows.specs.Rows.{InodeBlock, Block, Object}
@@ -63,6 +64,10 @@ places_from t inode from = filter (is_place_from inode from) t.inode_blocks
 -- the number of the first of them
 abbrev pub next_place : Tables → ℕ → ℕ → Option ℕ
 next_place t inode from = option_map (λ r. r.blockno) (find (is_place_from inode from) t.inode_blocks)
+
+-- all places of some files
+abbrev pub places_of : Tables → List ℕ → List InodeBlock
+places_of t inodes = flat_map (λ x. places_from t x 0) inodes
 
 -- these places name no block any more, one after the other
 abbrev pub places_dropped : List InodeBlock → Tables → List Change

@@ -1,7 +1,7 @@
 -- An entry that goes, found by its name, and the inode that it names.
 use Rattle.std.proofs.Common.{◌≡◌, ℕ, List, [], ◌∷◌, ◌++◌, Bool, true, false, Option, Some, refl, sym, ap, ◌∙◌, subst, arith, eqb-true, eq-eqb}
 use Rattle.std.specs.Prelude.{IsTrue, not, ◌==◌, option_map, unwrap_or}
-use Rattle.std.specs.List.{list_any}
+use Rattle.std.specs.List.{list_all, list_any}
 use Rattle.std.specs.Cmp.{nat_cmp_total}
 use Rattle.std.specs.FinMap.{nat_cmp-IsAntisymmetric, slice_cmp-IsAntisymmetric}
 use Rattle.std.specs.Ordering.{is_eq}
@@ -143,14 +143,14 @@ module _ (t : Tables) (whole : Tree) (p : Parameters) (d r : Inode) (c : Content
 
   -- ---- and without the inode
 
-  module _ (bare : IsBare t r.id) where
+  module _ (empty : IsTrue (list_all (λ (x : Content). not (x.parent == r.id)) t.contents)) where
     apart : (r.id == d.id) ≡ false
     apart = by_case (r.id == d.id) refl
       where
         by_case : (b : Bool) → (r.id == d.id) ≡ b → b ≡ false
         by_case true here =
             let other : IsTrue (not (c.parent == r.id)) =
-            find_passes_all (has_key by_entry (parent, n.id)) (λ (x : Content). not (x.parent == r.id)) t.contents c bare.entries is.entry in
+            find_passes_all (has_key by_entry (parent, n.id)) (λ (x : Content). not (x.parent == r.id)) t.contents c empty is.entry in
             let clash : false ≡ true = sym (ap not (eq-eqb c.parent r.id (sym (eqb-true r.id d.id here ∙ in_directory)))) ∙ other in
             absurd (cc clash)
         by_case false here = refl
@@ -160,6 +160,7 @@ module _ (t : Tables) (whole : Tree) (p : Parameters) (d r : Inode) (c : Content
         ap (λ (u : Tables). inode_at u r.id) dropped_is
         ∙ row_at-put_other by_inode nat_cmp_total r.id (touched_row now d) t.inodes (is_eq-nat_cmp r.id d.id ∙ apart) ∙ child_there
 
+  module _ (bare : IsBare t r.id) where
     pub bare_after : IsBare dropped r.id
     bare_after = subst (λ (u : Tables). IsBare u r.id) (sym dropped_is) (record {
       entries = list_all-without by_entry (λ (x : Content). not (x.parent == r.id)) (c.parent, c.name_id) t.contents bare.entries;

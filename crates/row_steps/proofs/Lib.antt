@@ -22,3 +22,4 @@ pub mod Removing
 pub mod Renaming
 pub mod Replacing
 pub mod Shape
+pub mod WithPlaces

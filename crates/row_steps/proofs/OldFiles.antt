@@ -1,5 +1,5 @@
 -- A file that loses an entry, and a nameless file that loses a handle: it goes where nothing keeps it.
-use Rattle.std.proofs.Common.{◌≡◌, ℕ, ◌+◌, ◌-◌, List, [], ◌∷◌, Bool, true, false, cond, Option, None, Some, refl, sym, ap, ◌∙◌, subst, arith, eqb-true}
+use Rattle.std.proofs.Common.{◌≡◌, ℕ, ◌+◌, ◌-◌, List, [], ◌∷◌, ◌++◌, Bool, true, false, cond, Option, None, Some, refl, sym, ap, ◌∙◌, subst, arith, eqb-true}
 use Rattle.std.proofs.lemmas.Bool.{and_parts}
 use Rattle.std.specs.Prelude.{IsTrue, not, ◌||◌, ◌==◌, is_some, nat_lt, option_and_then}
 use Rattle.std.specs.List.{list_all}
@@ -31,7 +31,11 @@ use Rattle.tree_rows.specs.Premises.{finds_directory_and_name}
 use Rattle.tree_rows.specs.Shapes.{Represents}
 use Rattle.tree_rows.proofs.Replaced.{replaced_represents}
 use Rattle.tree_rows.proofs.Whole.{folder_is, number_of}
+use Rattle.ref_counts.specs.Links.{places_from}
 use Rattle.ref_counts.specs.Plans.{IsStep}
+use Rattle.ref_counts.specs.Removals.{removal}
+use Rattle.block_steps.proofs.DroppedPlaces.{IsValid-places_dropped, params-places_dropped}
+use Rattle.block_steps.proofs.KeptNames.{Represents-KeepsNames}
 use Rattle.row_steps.specs.Owed.{IsBare, Owes, owes_links, times}
 use Rattle.row_steps.specs.RowChanges.{counted_row, dropping, settling, unlinking, touched_row}
 use Rattle.row_steps.proofs.Leaving.{IsLeaving, IsLess-dropped, IsStep-left, HasUniqueNames-dropped, Owes-dropped, Represents-dropped, child_number, child_there, dropped, dropped_is, entry_is, not_root, row_there, there}
@@ -40,6 +44,7 @@ use Rattle.row_steps.proofs.Living.{FindsChildren, FindsChildren-IsValid, FindsC
 use Rattle.row_steps.proofs.Owed.Ends.{Owes-IsValid}
 use Rattle.row_steps.proofs.Owed.Inodes.{Owes-put_inode_less, times_first}
 use Rattle.row_steps.proofs.Place.{kind_there}
+use Rattle.row_steps.proofs.WithPlaces.{IsStep-gone, after_removal-cleared, after_removal_alone-cleared, cleared, entry_at-cleared, inode_at-cleared, inode_at-removal, name_of_bytes-cleared, names-cleared, no_places}
 use Rattle.row_steps.proofs.Removing.{HasUniqueNames-removal, Owes-removal, Represents-removal, apart_by_kind, attrs-removal, gone, tables_after-removal}
 
 no_folder : (found : Option Node) → no_directory_check 21 found ≡ None → is_folder found ≡ false
@@ -66,7 +71,7 @@ IsBare-empty t p r o there other blocks slots = record {
 -- ---- a row with one link less
 
 module _ (t : Tables) (whole : Tree) (p : Parameters) (d r : Inode) (c : Content) (n : Name) (now parent : ℕ) (name : List ℕ)
-    (is : IsLeaving t whole p d r c n parent name) (bare : IsBare t r.id) where
+    (is : IsLeaving t whole p d r c n parent name) (empty : IsTrue (list_all (λ (x : Content). not (x.parent == r.id)) t.contents)) where
   abbrev unnamed : Tables
   unnamed = dropped t whole p d r c n now parent name is
 
@@ -74,7 +79,7 @@ module _ (t : Tables) (whole : Tree) (p : Parameters) (d r : Inode) (c : Content
   owes_unnamed = Owes-dropped t whole p d r c n now parent name is
 
   row_unnamed : inode_at unnamed r.id ≡ Some r
-  row_unnamed = row_there t whole p d r c n now parent name is bare
+  row_unnamed = row_there t whole p d r c n now parent name is empty
 
   number_is : c.inode ≡ r.id
   number_is = child_number t whole p d r c n now parent name is
@@ -129,11 +134,11 @@ module _ (t : Tables) (whole : Tree) (p : Parameters) (d r : Inode) (c : Content
   unlink_is : (pass : ℕ) → effect whole pass (ops.Unlink parent name) now ≡ cond (lives stamped_tree c.inode) stamped_tree (without_node c.inode stamped_tree)
   unlink_is pass = ap (λ (e : Option ℕ). subtrees.dropped now e unlinked) (entry_is t whole p d r c n now parent name is)
 
-  pub unlink_step : (pass : ℕ) (kept : Bool) → lives stamped_tree c.inode ≡ kept → HasUniqueNames t → IsWellFormed (effect whole pass (ops.Unlink parent name) now)
-      → IsStep t (tables_after (unlinking kept t d r c n now) t) (effect whole pass (ops.Unlink parent name) now) 0
-  unlink_step pass true lives_on unique well =
+  kept_step : (pass : ℕ) → lives stamped_tree c.inode ≡ true → IsWellFormed (effect whole pass (ops.Unlink parent name) now)
+      → IsStep t (tables_after (dropping d c n now ++ changes.PutInode row ∷ []) t) (effect whole pass (ops.Unlink parent name) now) 0
+  kept_step pass lives_on well =
       let after : Tree = effect whole pass (ops.Unlink parent name) now in
-      let tables : tables_after (unlinking true t d r c n now) t ≡ counted = sym (tables_after-tables_after (dropping d c n now) (changes.PutInode row ∷ []) t) in
+      let tables : tables_after (dropping d c n now ++ changes.PutInode row ∷ []) t ≡ counted = sym (tables_after-tables_after (dropping d c n now) (changes.PutInode row ∷ []) t) in
       let tree_is : after ≡ stamped_tree = unlink_is pass ∙ ap (λ b. cond b stamped_tree (without_node c.inode stamped_tree)) lives_on in
       let before : IsLess t unnamed = IsLess-dropped t whole p d r c n now parent name is in
       subst (λ (u : Tables). IsStep t u after 0) (sym tables)
@@ -148,21 +153,37 @@ module _ (t : Tables) (whole : Tree) (p : Parameters) (d r : Inode) (c : Content
         contents = before.contents;
         attrs = before.attrs;
       }))
-  unlink_step pass false goes unique well =
+
+  gone_step : (pass : ℕ) (bare : IsBare t r.id) → lives stamped_tree c.inode ≡ false → IsWellFormed (effect whole pass (ops.Unlink parent name) now)
+      → IsStep t (tables_after (dropping d c n now ++ removal t r.id (tables_after (dropping d c n now) t)) t) (effect whole pass (ops.Unlink parent name) now) 0
+  gone_step pass bare goes well =
       let tree_is : effect whole pass (ops.Unlink parent name) now ≡ without_node c.inode unlinked =
       unlink_is pass ∙ ap (λ b. cond b stamped_tree (without_node c.inode stamped_tree)) goes ∙ without_node-change_node (stamped now) c.inode unlinked in
-      subst (λ w. IsStep t (tables_after (unlinking false t d r c n now) t) w 0) (sym tree_is)
+      subst (λ w. IsStep t (tables_after (dropping d c n now ++ removal t r.id (tables_after (dropping d c n now) t)) t) w 0) (sym tree_is)
       (IsStep-left t whole p d r c n now parent name is bare (subst IsWellFormed tree_is well))
+
+-- the tables without the places of the file are those from which its entry goes
+IsLeaving-cleared : (t : Tables) (whole : Tree) (p : Parameters) (d r : Inode) (c : Content) (n : Name) (parent : ℕ) (name : List ℕ) (rows : List InodeBlock)
+    → IsLeaving t whole p d r c n parent name → IsLeaving (cleared t rows) whole p d r c n parent name
+IsLeaving-cleared t whole p d r c n parent name rows is = record {
+  valid = IsValid-places_dropped rows t is.valid;
+  same = Represents-KeepsNames t (cleared t rows) (names-cleared t rows) whole is.same;
+  params = params-places_dropped rows t ∙ is.params;
+  found = inode_at-cleared t rows parent ∙ is.found;
+  kind = is.kind;
+  bytes = name_of_bytes-cleared t rows name ∙ is.bytes;
+  entry = entry_at-cleared t rows parent n.id ∙ is.entry;
+  child = inode_at-cleared t rows c.inode ∙ is.child;
+}
 
 pub old_link_step : (t : Tables) (whole : Tree) (p : Parameters) (directory r : Inode) (c : Content) (n : Name) (pass parent now : ℕ) (name : List ℕ) (held : Bool)
     → IsValid t → HasUniqueNames t → IsWellFormed whole → Represents t whole → t.params ≡ Some p → inode_at t parent ≡ Some directory
     → name_of_bytes t name ≡ Some n → entry_at t parent n.id ≡ Some c → inode_at t c.inode ≡ Some r
-    → IsTrue (list_all (λ (x : InodeBlock). not (x.inode == r.id)) t.inode_blocks) → IsTrue (list_all (λ (x : Slot). not (x.inode == r.id)) t.slots)
+    → IsTrue (list_all (λ (x : Slot). not (x.inode == r.id)) t.slots)
     → is_open whole c.inode ≡ held → first_failure (checks whole pass (ops.Unlink parent name)) ≡ None
     → IsStep t (tables_after (unlinking (nat_lt 1 r.refcount || held) t directory r c n now) t) (effect whole pass (ops.Unlink parent name) now) 0
-old_link_step t whole p directory r c n pass parent now name held v unique well same made found bytes entry row_is blocks slots held_is passes =
-    unlink_step t whole p directory r c n now parent name is bare pass (nat_lt 1 r.refcount || held)
-    (lives_is t whole p directory r c n now parent name is bare held held_is) unique (IsWellFormed-effect whole pass now (ops.Unlink parent name) well passes)
+old_link_step t whole p directory r c n pass parent now name held v unique well same made found bytes entry row_is slots held_is passes =
+    by_case (nat_lt 1 r.refcount || held) (lives_is t whole p directory r c n now parent name is empty held held_is)
   where
     can : CanUnlink whole parent name
     can = can_unlink whole pass parent name passes
@@ -187,23 +208,69 @@ old_link_step t whole p directory r c n pass parent now name held v unique well 
         sym (ap (λ (x : Option Inode). elim x [ Some y ↦ is_directory y.kind | None ↦ false ]) row_is) ∙ sym (folder_is t whole same c.inode)
         ∙ no_folder (node_at whole c.inode) (ap (no_directory_check 21) (sym child_is) ∙ can.file)
 
-    bare : IsBare t r.id
+    empty : IsTrue (list_all (λ (x : Content). not (x.parent == r.id)) t.contents)
+    empty = no_entries t r (child_there t whole p directory r c n now parent name is) no_directory (Owes-IsValid t p v made)
+
+    after_well : IsWellFormed (effect whole pass (ops.Unlink parent name) now)
+    after_well = IsWellFormed-effect whole pass now (ops.Unlink parent name) well passes
+
+    rows : List InodeBlock
+    rows = places_from t r.id 0
+
+    u : Tables
+    u = cleared t rows
+
+    empty_there : IsTrue (list_all (λ (x : Content). not (x.parent == r.id)) u.contents)
+    empty_there = subst (λ (xs : List Content). IsTrue (list_all (λ (x : Content). not (x.parent == r.id)) xs)) (sym (names-cleared t rows).contents) empty
+
+    bare : IsBare u r.id
     bare = record {
-      entries = no_entries t r (child_there t whole p directory r c n now parent name is) no_directory (Owes-IsValid t p v made);
-      inode_blocks = blocks;
-      slots = slots;
+      entries = empty_there;
+      inode_blocks = no_places t v r.id;
+      slots = subst (λ (xs : List Slot). IsTrue (list_all (λ (x : Slot). not (x.inode == r.id)) xs)) (sym (names-cleared t rows).slots) slots;
     }
+
+    by_case : (kept : Bool) → lives (stamped_tree t whole p directory r c n now parent name is empty) c.inode ≡ kept
+        → IsStep t (tables_after (unlinking kept t directory r c n now) t) (effect whole pass (ops.Unlink parent name) now) 0
+    by_case true lives_on = kept_step t whole p directory r c n now parent name is empty pass lives_on after_well
+    by_case false goes =
+        let next : Tree = effect whole pass (ops.Unlink parent name) now in
+        let there = IsLeaving-cleared t whole p directory r c n parent name rows is in
+        subst (λ (w : Tables). IsStep t w next 0) (sym (after_removal-cleared t rows (dropping directory c n now) r.id))
+        (IsStep-gone t v r.id (tables_after (dropping directory c n now ++ removal u r.id (tables_after (dropping directory c n now) u)) u) next 0
+        (inode_at-removal u r.id (dropping directory c n now) u)
+        (gone_step u whole p directory r c n now parent name there empty_there pass bare goes after_well))
 
 -- ---- a nameless file
 
+-- a file without places goes, where neither an entry nor another handle keeps it
+bare_file_step : (t : Tables) (whole : Tree) (p : Parameters) (r : Inode) (number : ℕ) (next : Tree)
+    → Owes t p [] [] → IsBare t r.id → Represents t whole → next ≡ without_node r.id (without_handle number whole) → IsWellFormed next
+    → IsStep t (tables_after (removal t r.id t) t) next 0
+bare_file_step t whole p r number next owes bare same tree_is well =
+    let rest : Tables = gone t p r.id [] [] [] owes bare (λ x other. refl) in
+    subst (λ (u : Tables). IsStep t u next 0) (sym (tables_after-removal t p r.id [] [] [] owes bare (λ x other. refl)))
+    (IsStep-less t rest next p (Owes-removal t p r.id [] [] [] owes bare (λ x other. refl))
+    (subst (λ w. Represents rest w) (sym tree_is) (Represents-removal t p r.id [] [] [] owes bare (λ x other. refl) (without_handle number whole) same))
+    well
+    (λ u. HasUniqueNames-removal t p r.id [] [] [] owes bare (λ x other. refl) u)
+    (record {
+      params = refl;
+      inode_blocks = refl;
+      blocks = refl;
+      objects = refl;
+      slots = refl;
+      contents = omega arith;
+      attrs = attrs-removal t p r.id [] [] [] owes bare (λ x other. refl);
+    }))
+
 pub old_file_step : (t : Tables) (whole : Tree) (p : Parameters) (r : Inode) (handle : Handle) (pass number now : ℕ) (held : Bool)
     → IsValid t → HasUniqueNames t → IsWellFormed whole → Represents t whole → t.params ≡ Some p → handle_of whole pass number ≡ Some handle
-    → inode_at t handle.inode ≡ Some r → r.kind ≡ kinds.Regular
-    → IsTrue (list_all (λ (x : InodeBlock). not (x.inode == r.id)) t.inode_blocks) → IsTrue (list_all (λ (x : Slot). not (x.inode == r.id)) t.slots)
+    → inode_at t handle.inode ≡ Some r → r.kind ≡ kinds.Regular → IsTrue (list_all (λ (x : Slot). not (x.inode == r.id)) t.slots)
     → is_open (without_handle number whole) handle.inode ≡ held → first_failure (checks whole pass (ops.Release number)) ≡ None
     → IsStep t (tables_after (settling (not (r.refcount == 0) || held) t r.id) t) (effect whole pass (ops.Release number) now) 0
     × (keeps_rows whole pass (ops.Release number) ≡ (not (r.refcount == 0) || held))
-old_file_step t whole p r handle pass number now held v unique well same made has there_is kind blocks slots held_is passes =
+old_file_step t whole p r handle pass number now held v unique well same made has there_is kind slots held_is passes =
     (by_case (not (r.refcount == 0) || held) lives_on, ap (λ (h : Option Handle). lives (without_handle number whole) (inode_of h)) has ∙ lives_on)
   where
     owes : Owes t p [] []
@@ -221,11 +288,19 @@ old_file_step t whole p r handle pass number now held v unique well same made ha
     well_after : IsWellFormed (effect whole pass (ops.Release number) now)
     well_after = IsWellFormed-effect whole pass now (ops.Release number) well passes
 
-    bare : IsBare t r.id
+    rows : List InodeBlock
+    rows = places_from t r.id 0
+
+    u : Tables
+    u = cleared t rows
+
+    bare : IsBare u r.id
     bare = record {
-      entries = no_entries t r (ap (inode_at t) (sym id_is) ∙ there_is) (ap is_directory kind) owes;
-      inode_blocks = blocks;
-      slots = slots;
+      entries =
+          subst (λ (xs : List Content). IsTrue (list_all (λ (x : Content). not (x.parent == r.id)) xs)) (sym (names-cleared t rows).contents)
+          (no_entries t r (ap (inode_at t) (sym id_is) ∙ there_is) (ap is_directory kind) owes);
+      inode_blocks = no_places t v r.id;
+      slots = subst (λ (xs : List Slot). IsTrue (list_all (λ (x : Slot). not (x.inode == r.id)) xs)) (sym (names-cleared t rows).slots) slots;
     }
 
     by_case : (kept : Bool) → lives (without_handle number whole) handle.inode ≡ kept
@@ -233,23 +308,14 @@ old_file_step t whole p r handle pass number now held v unique well same made ha
     by_case true stays =
         let tree_is : effect whole pass (ops.Release number) now ≡ without_handle number whole =
         settles ∙ ap (λ b. cond b (without_handle number whole) (without_node handle.inode (without_handle number whole))) stays in
-        IsStep-less t t (effect whole pass (ops.Release number) now) p owes (subst (λ w. Represents t w) (sym tree_is) same) well_after (λ u. u) (IsLess-refl t)
+        IsStep-less t t (effect whole pass (ops.Release number) now) p owes (subst (λ w. Represents t w) (sym tree_is) same) well_after (λ x. x) (IsLess-refl t)
     by_case false goes =
-        let rest : Tables = gone t p r.id [] [] [] owes bare (λ x other. refl) in
-        let tree_is : effect whole pass (ops.Release number) now ≡ without_node r.id (without_handle number whole) =
+        let next : Tree = effect whole pass (ops.Release number) now in
+        let tree_is : next ≡ without_node r.id (without_handle number whole) =
         settles ∙ ap (λ b. cond b (without_handle number whole) (without_node handle.inode (without_handle number whole))) goes
         ∙ ap (λ x. without_node x (without_handle number whole)) id_is in
-        subst (λ (u : Tables). IsStep t u (effect whole pass (ops.Release number) now) 0) (sym (tables_after-removal t p r.id [] [] [] owes bare (λ x other. refl)))
-        (IsStep-less t rest (effect whole pass (ops.Release number) now) p (Owes-removal t p r.id [] [] [] owes bare (λ x other. refl))
-        (subst (λ w. Represents rest w) (sym tree_is) (Represents-removal t p r.id [] [] [] owes bare (λ x other. refl) (without_handle number whole) same))
-        well_after
-        (λ u. HasUniqueNames-removal t p r.id [] [] [] owes bare (λ x other. refl) u)
-        (record {
-          params = refl;
-          inode_blocks = refl;
-          blocks = refl;
-          objects = refl;
-          slots = refl;
-          contents = omega arith;
-          attrs = attrs-removal t p r.id [] [] [] owes bare (λ x other. refl);
-        }))
+        let valid : IsValid u = IsValid-places_dropped rows t v in
+        subst (λ (w : Tables). IsStep t w next 0) (sym (after_removal_alone-cleared t rows r.id))
+        (IsStep-gone t v r.id (tables_after (removal u r.id u) u) next 0 (inode_at-removal u r.id [] u)
+        (bare_file_step u whole p r number next (Owes-IsValid u p valid (params-places_dropped rows t ∙ made)) bare
+        (Represents-KeepsNames t u (names-cleared t rows) whole same) tree_is well_after))

@@ -1,14 +1,16 @@
 -- A Rename: its passed checks give what moves, and its effect is the entry moved.
-use Rattle.std.proofs.Common.{◌≡◌, ℕ, List, [], Bool, true, false, cond, None, Some, refl, sym, ap, ◌∙◌, subst, arith}
+use Rattle.std.proofs.Common.{◌≡◌, ℕ, ◌-◌, List, [], ◌∷◌, ◌++◌, Bool, true, false, cond, None, Some, refl, sym, ap, ◌∙◌, subst, arith}
 use Rattle.std.specs.Prelude.{IsTrue, not, ◌||◌, ◌==◌, nat_lt}
 use Rattle.std.specs.List.{list_all}
 use Rattle.op_frames.specs.declared.operation.Op.TheVariants as ops
 use Rattle.plain_tree.specs.Tree.{Tree}
 use Rattle.plain_tree.specs.Checks.{first_failure}
-use Rattle.plain_tree.specs.Entries.{entry_at, is_open}
+use Rattle.plain_tree.specs.Entries.{entry_at, is_open, lives}
 use Rattle.plain_tree.specs.Operations.{checks, effect}
 use Rattle.plain_tree.specs.Subtrees.{dropped, is_same, moved_entry}
 use Rattle.plain_tree.specs.WellFormed.{IsWellFormed}
+use Rattle.s3_rows.specs.declared.change.Change.{Change}
+use Rattle.s3_rows.specs.declared.change.Change.TheVariants as changes
 use Rattle.s3_rows.specs.Rows.{Inode, Name, Content, InodeBlock, Slot, Parameters}
 use Rattle.s3_rows.specs.Tables.{Tables}
 use Rattle.s3_rows.specs.Batches.{tables_after}
@@ -20,13 +22,18 @@ use Rattle.tree_laws.proofs.WellFormed.{IsWellFormed-effect}
 use Rattle.tree_rows.specs.Shapes.{Represents}
 use Rattle.ref_counts.specs.Names.{Raised, raised}
 use Rattle.ref_counts.specs.Plans.{IsStep}
+use Rattle.ref_counts.specs.Links.{places_from}
+use Rattle.ref_counts.specs.Removals.{removal}
 use Rattle.ref_counts.proofs.Rest.{LeavesRest-LeavesBlocks}
-use Rattle.row_steps.specs.RowChanges.{dropping, moving, other_name, replacing, same_name}
+use Rattle.block_steps.proofs.DroppedPlaces.{IsValid-places_dropped, params-places_dropped}
+use Rattle.block_steps.proofs.KeptNames.{Represents-KeepsNames}
+use Rattle.row_steps.specs.RowChanges.{counted_row, dropping, moving, name_of_replaced, other_name, replacing, same_name}
 use Rattle.row_steps.proofs.Leaving.{IsLeaving, entry_is}
 use Rattle.row_steps.proofs.MovedNames.{IsStep-other_name, IsStep-same_name}
 use Rattle.row_steps.proofs.Moving.{IsMoving, final}
 use Rattle.row_steps.proofs.Place.{kind_there}
-use Rattle.row_steps.proofs.Replacing.{IsStep-replacing, lives_is}
+use Rattle.row_steps.proofs.Replacing.{IsStep-replacing_gone, IsStep-replacing_kept, lives_is, stamped_tree}
+use Rattle.row_steps.proofs.WithPlaces.{IsStep-gone, after_removal-cleared, cleared, entry_at-cleared, inode_at-cleared, inode_at-removal, name_of_bytes-cleared, names-cleared, no_places}
 
 pub itself_step : (t : Tables) (whole : Tree) (pass parent new_parent now : ℕ) (name new_name : List ℕ) → IsValid t → Represents t whole
     → is_same (entry_at whole new_parent new_name) (entry_at whole parent name) ≡ true
@@ -129,14 +136,28 @@ module _ (t : Tables) (whole : Tree) (p : Parameters) (d d2 r : Inode) (c : Cont
         ≡ dropped now (Some c2.inode) (final t whole p d d2 r c n now parent name new_parent new_name (is_moving differ))
     over_is = effect_is differ ∙ ap (λ e. dropped now e (final t whole p d d2 r c n now parent name new_parent new_name (is_moving differ))) there
 
-    pub replaced_moved : (held : Bool) → IsTrue (list_all (λ (x : InodeBlock). not (x.inode == r2.id)) t.inode_blocks)
-        → IsTrue (list_all (λ (x : Slot). not (x.inode == r2.id)) t.slots) → is_open whole c2.inode ≡ held
-        → IsStep t (tables_after (replacing (nat_lt 1 r2.refcount || held) t d d2 r r2 c c2 n now) t) (effect whole pass (ops.Rename parent name new_parent new_name) now) 0
-    replaced_moved held blocks slots held_is =
-        subst (λ (next : Tree). IsStep t (tables_after (replacing (nat_lt 1 r2.refcount || held) t d d2 r r2 c c2 n now) t) next 0) (sym over_is)
-        (IsStep-replacing t whole p d d2 r r2 c c2 n n2 now parent name new_parent new_name (is_moving differ) replaced blocks slots (nat_lt 1 r2.refcount || held)
-        (lives_is t whole p d d2 r r2 c c2 n n2 now parent name new_parent new_name (is_moving differ) replaced held held_is)
-        (subst IsWellFormed over_is (IsWellFormed-effect whole pass now (ops.Rename parent name new_parent new_name) well passes)))
+    lives_after : (held : Bool) → is_open whole c2.inode ≡ held
+        → lives (stamped_tree t whole p d d2 r r2 c c2 n n2 now parent name new_parent new_name (is_moving differ) replaced) c2.inode ≡ (nat_lt 1 r2.refcount || held)
+    lives_after held held_is = lives_is t whole p d d2 r r2 c c2 n n2 now parent name new_parent new_name (is_moving differ) replaced held held_is
+
+    well_over : IsWellFormed (dropped now (Some c2.inode) (final t whole p d d2 r c n now parent name new_parent new_name (is_moving differ)))
+    well_over = subst IsWellFormed over_is (IsWellFormed-effect whole pass now (ops.Rename parent name new_parent new_name) well passes)
+
+    pub replaced_kept : (held : Bool) → is_open whole c2.inode ≡ held → (nat_lt 1 r2.refcount || held) ≡ true
+        → IsStep t (tables_after (moving d d2 c (name_of_replaced n c2) r now ++ changes.PutInode (counted_row (r2.refcount - 1) now r2) ∷ []) t)
+        (effect whole pass (ops.Rename parent name new_parent new_name) now) 0
+    replaced_kept held held_is kept =
+        subst (λ (next : Tree). IsStep t (tables_after (moving d d2 c (name_of_replaced n c2) r now ++ changes.PutInode (counted_row (r2.refcount - 1) now r2) ∷ []) t) next 0) (sym over_is)
+        (IsStep-replacing_kept t whole p d d2 r r2 c c2 n n2 now parent name new_parent new_name (is_moving differ) replaced (lives_after held held_is ∙ kept) well_over)
+
+    pub replaced_gone : (held : Bool) → IsTrue (list_all (λ (x : InodeBlock). not (x.inode == r2.id)) t.inode_blocks)
+        → IsTrue (list_all (λ (x : Slot). not (x.inode == r2.id)) t.slots) → is_open whole c2.inode ≡ held → (nat_lt 1 r2.refcount || held) ≡ false
+        → IsStep t (tables_after (moving d d2 c (name_of_replaced n c2) r now ++ removal t r2.id (tables_after (moving d d2 c (name_of_replaced n c2) r now) t)) t)
+        (effect whole pass (ops.Rename parent name new_parent new_name) now) 0
+    replaced_gone held blocks slots held_is goes =
+        subst (λ (next : Tree). IsStep t (tables_after (moving d d2 c (name_of_replaced n c2) r now ++ removal t r2.id (tables_after (moving d d2 c (name_of_replaced n c2) r now) t)) t) next 0)
+        (sym over_is)
+        (IsStep-replacing_gone t whole p d d2 r r2 c c2 n n2 now parent name new_parent new_name (is_moving differ) replaced blocks slots (lives_after held held_is ∙ goes) well_over)
 
 pub same_name_step : (t : Tables) (whole : Tree) (p : Parameters) (d d2 r : Inode) (c : Content) (n : Name) (pass parent new_parent now : ℕ) (name : List ℕ)
     → IsValid t → IsWellFormed whole → Represents t whole → t.params ≡ Some p → inode_at t parent ≡ Some d → inode_at t new_parent ≡ Some d2
@@ -161,9 +182,31 @@ pub replaced_step : (t : Tables) (whole : Tree) (p : Parameters) (d d2 r r2 : In
     → IsValid t → IsWellFormed whole → Represents t whole → t.params ≡ Some p → inode_at t parent ≡ Some d → inode_at t new_parent ≡ Some d2
     → name_of_bytes t name ≡ Some n → selections.entry_at t parent n.id ≡ Some c → inode_at t c.inode ≡ Some r
     → name_of_bytes t new_name ≡ Some n2 → selections.entry_at t new_parent n2.id ≡ Some c2 → inode_at t c2.inode ≡ Some r2
-    → IsTrue (list_all (λ (x : InodeBlock). not (x.inode == r2.id)) t.inode_blocks) → IsTrue (list_all (λ (x : Slot). not (x.inode == r2.id)) t.slots)
+    → IsTrue (list_all (λ (x : Slot). not (x.inode == r2.id)) t.slots)
     → is_open whole c2.inode ≡ held → first_failure (checks whole pass (ops.Rename parent name new_parent new_name)) ≡ None → (c2.inode == c.inode) ≡ false
     → IsStep t (tables_after (replacing (nat_lt 1 r2.refcount || held) t d d2 r r2 c c2 n now) t) (effect whole pass (ops.Rename parent name new_parent new_name) now) 0
-replaced_step t whole p d d2 r r2 c c2 n n2 pass parent new_parent now name new_name held v well same made found new_found bytes entry row new_bytes new_entry new_row blocks slots held_is passes other =
-    replaced_moved t whole p d d2 r c n pass parent new_parent now name new_name v well same made found new_found bytes entry row passes
-    r2 c2 n2 new_bytes new_entry new_row other held blocks slots held_is
+replaced_step t whole p d d2 r r2 c c2 n n2 pass parent new_parent now name new_name held v well same made found new_found bytes entry row new_bytes new_entry new_row slots held_is passes other =
+    by_case (nat_lt 1 r2.refcount || held) refl
+  where
+    rows : List InodeBlock
+    rows = places_from t r2.id 0
+
+    u : Tables
+    u = cleared t rows
+
+    by_case : (kept : Bool) → (nat_lt 1 r2.refcount || held) ≡ kept
+        → IsStep t (tables_after (replacing kept t d d2 r r2 c c2 n now) t) (effect whole pass (ops.Rename parent name new_parent new_name) now) 0
+    by_case true stays =
+        replaced_kept t whole p d d2 r c n pass parent new_parent now name new_name v well same made found new_found bytes entry row passes
+        r2 c2 n2 new_bytes new_entry new_row other held held_is stays
+    by_case false goes =
+        let next : Tree = effect whole pass (ops.Rename parent name new_parent new_name) now in
+        let batch : List Change = moving d d2 c (name_of_replaced n c2) r now in
+        subst (λ (w : Tables). IsStep t w next 0) (sym (after_removal-cleared t rows batch r2.id))
+        (IsStep-gone t v r2.id (tables_after (batch ++ removal u r2.id (tables_after batch u)) u) next 0 (inode_at-removal u r2.id batch u)
+        (replaced_gone u whole p d d2 r c n pass parent new_parent now name new_name (IsValid-places_dropped rows t v) well
+        (Represents-KeepsNames t u (names-cleared t rows) whole same) (params-places_dropped rows t ∙ made) (inode_at-cleared t rows parent ∙ found)
+        (inode_at-cleared t rows new_parent ∙ new_found) (name_of_bytes-cleared t rows name ∙ bytes) (entry_at-cleared t rows parent n.id ∙ entry)
+        (inode_at-cleared t rows c.inode ∙ row) passes r2 c2 n2 (name_of_bytes-cleared t rows new_name ∙ new_bytes) (entry_at-cleared t rows new_parent n2.id ∙ new_entry)
+        (inode_at-cleared t rows c2.inode ∙ new_row) other held (no_places t v r2.id)
+        (subst (λ (xs : List Slot). IsTrue (list_all (λ (x : Slot). not (x.inode == r2.id)) xs)) (sym (names-cleared t rows).slots) slots) held_is goes))

@@ -32,7 +32,7 @@ use Rattle.ref_counts.specs.Names.{lowered}
 use Rattle.ref_counts.specs.Plans.{IsStep}
 use Rattle.ref_counts.specs.Removals.{removal}
 use Rattle.row_steps.specs.Owed.{IsBare, Owes, owes_links, times}
-use Rattle.row_steps.specs.RowChanges.{counted_row, moving, name_of_replaced, replacing, stamped_row, touched_row}
+use Rattle.row_steps.specs.RowChanges.{counted_row, moving, name_of_replaced, stamped_row, touched_row}
 use Rattle.row_steps.proofs.Leaving.{IsLeaving}
 use Rattle.row_steps.proofs.Leaving as leaving
 use Rattle.row_steps.proofs.Living.{FindsChildren, is_named-owes, is_open-change_node, some_left, without_node-change_node}
@@ -186,7 +186,7 @@ module _ (t : Tables) (whole : Tree) (p : Parameters) (d d2 r r2 : Inode) (c c2 
   owes_counted =
       Owes-put_inode_less replaced p r2 low [] [] (subst (λ x. Owes replaced p (x ∷ []) []) number_is both.0) row_still refl refl (omega (arith, one_less))
 
-  abbrev stamped_tree : Tree
+  abbrev pub stamped_tree : Tree
   stamped_tree = change_node c2.inode (stamped now) next
 
   represents_counted : Represents counted stamped_tree
@@ -236,6 +236,25 @@ module _ (t : Tables) (whole : Tree) (p : Parameters) (d d2 r r2 : Inode) (c c2 
   others : (x : ℕ) → (r2.id == x) ≡ false → times x [] ≡ times x (c2.inode ∷ [])
   others x other = sym (times_other c2.inode x [] (ap (λ y. y == x) number_is ∙ other))
 
+  pub IsStep-replacing_kept : lives stamped_tree c2.inode ≡ true → IsWellFormed (dropped now (Some c2.inode) next)
+      → IsStep t (tables_after (batch ++ changes.PutInode low ∷ []) t) (dropped now (Some c2.inode) next) 0
+  IsStep-replacing_kept lives_on well =
+      let tree_is : dropped now (Some c2.inode) next ≡ stamped_tree = ap (λ b. cond b stamped_tree (without_node c2.inode stamped_tree)) lives_on in
+      let tables : tables_after (batch ++ changes.PutInode low ∷ []) t ≡ counted =
+      sym (tables_after-tables_after batch (changes.PutInode low ∷ []) t) ∙ ap (tables_after (changes.PutInode low ∷ [])) batch_is in
+      subst (λ (u : Tables). IsStep t u (dropped now (Some c2.inode) next) 0) (sym tables)
+      (IsStep-less t counted (dropped now (Some c2.inode) next) p owes_counted (subst (Represents counted) (sym tree_is) represents_counted) well
+      (less t whole p d d2 r c n now parent name new_parent new_name is).unique
+      (record {
+        params = refl;
+        inode_blocks = refl;
+        blocks = refl;
+        objects = refl;
+        slots = refl;
+        contents = fewer t whole p d d2 r c n now parent name new_parent new_name is c2.name_id;
+        attrs = omega arith;
+      }))
+
   module _ (blocks : IsTrue (list_all (λ (x : InodeBlock). not (x.inode == r2.id)) t.inode_blocks))
       (slots : IsTrue (list_all (λ (x : Slot). not (x.inode == r2.id)) t.slots)) where
     bare : IsBare replaced r2.id
@@ -259,25 +278,9 @@ module _ (t : Tables) (whole : Tree) (p : Parameters) (d d2 r r2 : Inode) (c c2 
         sym (tables_after-tables_after batch (removal t r2.id (tables_after batch t)) t) ∙ ap (λ (u : Tables). tables_after (removal t r2.id u) u) batch_is
         ∙ tables_after-removal replaced p r2.id (c2.inode ∷ []) [] [] both.0 bare others
 
-    pub IsStep-replacing : (kept : Bool) → lives stamped_tree c2.inode ≡ kept → IsWellFormed (dropped now (Some c2.inode) next)
-        → IsStep t (tables_after (replacing kept t d d2 r r2 c c2 n now) t) (dropped now (Some c2.inode) next) 0
-    IsStep-replacing true lives_on well =
-        let tree_is : dropped now (Some c2.inode) next ≡ stamped_tree = ap (λ b. cond b stamped_tree (without_node c2.inode stamped_tree)) lives_on in
-        let tables : tables_after (batch ++ changes.PutInode low ∷ []) t ≡ counted =
-        sym (tables_after-tables_after batch (changes.PutInode low ∷ []) t) ∙ ap (tables_after (changes.PutInode low ∷ [])) batch_is in
-        subst (λ (u : Tables). IsStep t u (dropped now (Some c2.inode) next) 0) (sym tables)
-        (IsStep-less t counted (dropped now (Some c2.inode) next) p owes_counted (subst (Represents counted) (sym tree_is) represents_counted) well
-        (less t whole p d d2 r c n now parent name new_parent new_name is).unique
-        (record {
-          params = refl;
-          inode_blocks = refl;
-          blocks = refl;
-          objects = refl;
-          slots = refl;
-          contents = fewer t whole p d d2 r c n now parent name new_parent new_name is c2.name_id;
-          attrs = omega arith;
-        }))
-    IsStep-replacing false goes well =
+    pub IsStep-replacing_gone : lives stamped_tree c2.inode ≡ false → IsWellFormed (dropped now (Some c2.inode) next)
+        → IsStep t (tables_after (batch ++ removal t r2.id (tables_after batch t)) t) (dropped now (Some c2.inode) next) 0
+    IsStep-replacing_gone goes well =
         let tree_is : dropped now (Some c2.inode) next ≡ without_node c2.inode next =
         ap (λ b. cond b stamped_tree (without_node c2.inode stamped_tree)) goes ∙ without_node-change_node (stamped now) c2.inode next in
         subst (λ (u : Tables). IsStep t u (dropped now (Some c2.inode) next) 0) (sym left_over_is)

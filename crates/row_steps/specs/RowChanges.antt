@@ -7,7 +7,8 @@ use Rattle.s3_rows.specs.Rows.{Inode, Name, Content, Attr, Parameters}
 use Rattle.s3_rows.specs.Tables.{Tables}
 use Rattle.s3_rows.specs.Batches.{after_change, tables_after}
 use Rattle.ref_counts.specs.Names.{Raised, lowered}
-use Rattle.ref_counts.specs.Removals.{removal}
+use Rattle.ref_counts.specs.Links.{places_dropped, places_of, places_of_gone}
+use Rattle.ref_counts.specs.Removals.{removal, removals}
 
 -- both times set
 abbrev pub touched_row : ℕ → Inode → Inode
@@ -76,15 +77,21 @@ dropping_attr a n = changes.DeleteAttr a.inode a.name_id ∷ lowered n
 abbrev pub counted_row : ℕ → ℕ → Inode → Inode
 counted_row count now r = record r { ctime = now; refcount = count }
 
--- an entry that goes, and its inode, which counts one link less where another entry or a handle keeps it, and goes where none does
+-- An entry that goes, and its inode, which counts one link less where another entry or a handle keeps it, and goes where none does.
+-- The places of a file that goes name no block any more, before all else.
 abbrev pub unlinking : Bool → Tables → Inode → Inode → Content → Name → ℕ → List Change
 unlinking kept t directory r c n now =
-    dropping directory c n now
-    ++ (if kept then changes.PutInode (counted_row (r.refcount - 1) now r) ∷ [] else removal t r.id (tables_after (dropping directory c n now) t))
+    places_of_gone kept t r.id ++ dropping directory c n now
+    ++ (if kept then changes.PutInode (counted_row (r.refcount - 1) now r) ∷ []
+    else removal t r.id (tables_after (places_of_gone kept t r.id ++ dropping directory c n now) t))
 
--- an inode that goes where nothing keeps it
+-- an inode that goes where nothing keeps it, after its places
 abbrev pub settling : Bool → Tables → ℕ → List Change
-settling kept t inode = if kept then [] else removal t inode t
+settling kept t inode = places_of_gone kept t inode ++ (if kept then [] else removal t inode (tables_after (places_of_gone kept t inode) t))
+
+-- inodes that go one after the other, after the places of all of them
+abbrev pub leaving : Tables → List ℕ → List Change
+leaving t inodes = places_dropped (places_of t inodes) t ++ removals t inodes (tables_after (places_dropped (places_of t inodes) t) t)
 
 -- An entry moves: the old one is deleted, and its directory touched; where the name changes, the uses of names do; the new entry
 -- is put, in place of another or not, and its directory touched; and the inode that both name is stamped.
@@ -118,13 +125,13 @@ adding_attr r more value now = more.changes ++ setting_attr r more.id value now
 abbrev pub removing_attr : Inode → Attr → Name → ℕ → List Change
 removing_attr r a n now = changes.DeleteAttr a.inode a.name_id ∷ changes.PutInode (stamped_row now r) ∷ lowered n
 
--- an entry that moves to the place of another, whose inode counts one link less where another entry or a handle keeps it, and goes
--- where none does
+-- An entry that moves to the place of another, whose inode counts one link less where another entry or a handle keeps it, and goes
+-- where none does, its places before all else.
 abbrev pub replacing : Bool → Tables → Inode → Inode → Inode → Inode → Content → Content → Name → ℕ → List Change
 replacing kept t directory new_directory r replaced c old n now =
-    moving directory new_directory c (name_of_replaced n old) r now
+    places_of_gone kept t replaced.id ++ moving directory new_directory c (name_of_replaced n old) r now
     ++ (if kept then changes.PutInode (counted_row (replaced.refcount - 1) now replaced) ∷ []
-    else removal t replaced.id (tables_after (moving directory new_directory c (name_of_replaced n old) r now) t))
+    else removal t replaced.id (tables_after (places_of_gone kept t replaced.id ++ moving directory new_directory c (name_of_replaced n old) r now) t))
 
 -- an inode counts one link more, and the entry that is it comes
 abbrev pub linking : Inode → Inode → Raised → ℕ → List Change

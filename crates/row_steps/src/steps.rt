@@ -86,12 +86,11 @@ pub fn old_directories_are_steps()
 {}
 
 /// Where no check of an Unlink fails, its batch leaves valid tables that represent the tree without the entry: the file counts one
-/// link less where another entry or a handle keeps it, and goes where none does. No block or slot is of it.
+/// link less where another entry or a handle keeps it, and goes with its places where none does. No slot is of it.
 pub fn old_links_are_steps()
     ensures { (t : Tables) (whole : Tree) (p : Parameters) (directory r : Inode) (c : Content) (n : Name) (pass parent now : ℕ) (name : List ℕ) (held : Bool)
         → IsValid t → HasUniqueNames t → IsWellFormed whole → Represents t whole → t.params ≡ Some p → inode_at t parent ≡ Some directory
-        → name_of_bytes t name ≡ Some n → entry_at t parent n.id ≡ Some c → inode_at t c.inode ≡ Some r
-        → IsTrue (list_all (λ x. not (x.inode == r.id)) t.inode_blocks) → IsTrue (list_all (λ x. not (x.inode == r.id)) t.slots)
+        → name_of_bytes t name ≡ Some n → entry_at t parent n.id ≡ Some c → inode_at t c.inode ≡ Some r → IsTrue (list_all (λ x. not (x.inode == r.id)) t.slots)
         → is_open whole c.inode ≡ held → first_failure (checks whole pass (ops.Unlink parent name)) ≡ None
         → IsStep t (tables_after (unlinking (nat_lt 1 r.refcount || held) t directory r c n now) t) (effect whole pass (ops.Unlink parent name) now) 0 }
 {}
@@ -110,8 +109,7 @@ pub fn left_files_are_steps()
 pub fn old_files_are_steps()
     ensures { (t : Tables) (whole : Tree) (p : Parameters) (r : Inode) (handle : Handle) (pass number now : ℕ) (held : Bool)
         → IsValid t → HasUniqueNames t → IsWellFormed whole → Represents t whole → t.params ≡ Some p → handle_of whole pass number ≡ Some handle
-        → inode_at t handle.inode ≡ Some r → r.kind ≡ kinds.Regular
-        → IsTrue (list_all (λ x. not (x.inode == r.id)) t.inode_blocks) → IsTrue (list_all (λ x. not (x.inode == r.id)) t.slots)
+        → inode_at t handle.inode ≡ Some r → r.kind ≡ kinds.Regular → IsTrue (list_all (λ x. not (x.inode == r.id)) t.slots)
         → is_open (without_handle number whole) handle.inode ≡ held → first_failure (checks whole pass (ops.Release number)) ≡ None
         → IsStep t (tables_after (settling (not (r.refcount == 0) || held) t r.id) t) (effect whole pass (ops.Release number) now) 0
         × (keeps_rows whole pass (ops.Release number) ≡ (not (r.refcount == 0) || held)) }
