@@ -33,11 +33,11 @@ module _ {K R : Type 0} (o : Order K R) where
   without_all (x ∷ xs) rows = without_all xs (without o (o.key x) rows)
 
   -- a row has the key of one of these
-  abbrev is_one_of : List R → R → Bool
+  abbrev pub is_one_of : List R → R → Bool
   is_one_of xs r = list_any (λ x. has_key o (o.key x) r) xs
 
   -- what each row passes that has none of the keys, all pass that stay
-  list_all-without_all : (p : R → Bool) (xs rows : List R) → IsTrue (list_all (λ r. p r || is_one_of xs r) rows) → IsTrue (list_all p (without_all xs rows))
+  pub list_all-without_all : (p : R → Bool) (xs rows : List R) → IsTrue (list_all (λ r. p r || is_one_of xs r) rows) → IsTrue (list_all p (without_all xs rows))
   list_all-without_all p [] rows all = list_all_weaker (λ r. p r || false) p (λ r. either (p r)) rows all
     where
       either : (b : Bool) → IsTrue (b || false) → IsTrue b
@@ -59,7 +59,7 @@ module _ {K R : Type 0} (o : Order K R) where
 
   module _ (total : IsTotalOrder o.compare) (q : R → Bool) where
     -- a row that passes has the key of one that passes
-    is_one_of-filter : (rows : List R) → IsTrue (list_all (λ r. not (q r) || is_one_of (filter q rows) r) rows)
+    pub is_one_of-filter : (rows : List R) → IsTrue (list_all (λ r. not (q r) || is_one_of (filter q rows) r) rows)
     is_one_of-filter [] = refl
     is_one_of-filter (x ∷ xs) = by_case (is_one_of-filter xs) (q x) refl
       where
@@ -85,7 +85,7 @@ module _ {K R : Type 0} (o : Order K R) where
 
 -- ---- places that go
 
-inode_blocks-places_dropped : (rows : List InodeBlock) (t : Tables) → (tables_after (places_dropped rows t) t).inode_blocks ≡ without_all by_spot rows t.inode_blocks
+pub inode_blocks-places_dropped : (rows : List InodeBlock) (t : Tables) → (tables_after (places_dropped rows t) t).inode_blocks ≡ without_all by_spot rows t.inode_blocks
 inode_blocks-places_dropped [] t = refl
 inode_blocks-places_dropped (r ∷ rs) t =
     let first = relinked t r.inode r.blockno None in
@@ -158,7 +158,7 @@ OwesPlaces-places_dropped p owed (r ∷ rs) t o =
     subst (λ (u : Tables). OwesPlaces u p owed) (tables_after-tables_after first (places_dropped rs now) t)
     (OwesPlaces-places_dropped p owed rs now (OwesPlaces-dropped t p r.inode r.blockno owed o))
 
-form_at-places_dropped : (p : Parameters) (owed : List ℕ) (other number : ℕ) (rows : List InodeBlock) (t : Tables) → OwesPlaces t p owed
+pub form_at-places_dropped : (p : Parameters) (owed : List ℕ) (other number : ℕ) (rows : List InodeBlock) (t : Tables) → OwesPlaces t p owed
     → IsTrue (list_all (λ (r : InodeBlock). not (is_eq (pair_cmp (other, number) (r.inode, r.blockno)))) rows)
     → form_at (tables_after (places_dropped rows t) t) other number ≡ form_at t other number
 form_at-places_dropped p owed other number [] t o apart = refl

@@ -1,4 +1,4 @@
--- Nameless files that go with the last handles of a pass.
+-- Nameless files without places that go with the last handles of a pass.
 use Rattle.std.proofs.Common.{◌≡◌, ℕ, List, [], ◌∷◌, ◌++◌, map, Bool, true, false, cond, Option, Some, refl, sym, ap, ◌∙◌, subst, arith, eq-eqb, eqb-true}
 use Rattle.std.specs.Prelude.{IsTrue, not, ◌&&◌, ◌||◌, ◌==◌, filter, option_map, unwrap_or}
 use Rattle.std.specs.List.{list_all, AllByRecursion}
@@ -67,7 +67,7 @@ filter_agree p q (x ∷ xs) same = λ i. cond (same.0 i) (x ∷ filter_agree p q
 -- ---- tables without inodes
 
 -- the inodes that pass the test are gone, with all that was their own
-record IsSwept (t u : Tables) (p : Parameters) (dead : ℕ → Bool) : Type 0 where
+pub record IsSwept (t u : Tables) (p : Parameters) (dead : ℕ → Bool) : Type 0 where
   pub owes : Owes u p [] []
   pub less : IsLess t u
   pub contents : u.contents ≡ t.contents
@@ -196,24 +196,28 @@ swept_all t p (x ∷ xs) u dead s each apart =
 
 -- ---- a pass that leaves
 
-pub left_files_step : (t : Tables) (whole : Tree) (p : Parameters) (pass now : ℕ) (inodes : List ℕ)
+or_false : (b : Bool) → (b || false) ≡ b
+or_false true = refl
+or_false false = refl
+
+pub swept_files : (t : Tables) (p : Parameters) (inodes : List ℕ) → IsValid t → t.params ≡ Some p → ((x : ℕ) → IsTrue (is_among inodes x) → IsBare t x)
+    → IsTrue (differ (λ a b. b == a) inodes) → IsSwept t (tables_after (removals t inodes t) t) p (is_among inodes)
+swept_files t p inodes v made bare apart =
+    subst (λ (d : ℕ → Bool). IsSwept t (tables_after (removals t inodes t) t) p d) (λ i y. or_false (is_among inodes y) i)
+    (swept_all t p inodes t (λ x. false) (IsSwept-none t p (Owes-IsValid t p v made)) (λ x among. (bare x among, refl)) apart)
+
+pub bare_files_step : (t : Tables) (whole : Tree) (p : Parameters) (pass now : ℕ) (inodes : List ℕ)
     → IsValid t → HasUniqueNames t → IsWellFormed whole → Represents t whole → t.params ≡ Some p
     → ((x : ℕ) → IsTrue (is_among inodes x) → IsBare t x) → IsTrue (differ (λ a b. b == a) inodes)
     → ((r : Inode) → inode_at t r.id ≡ Some r
     → lives (record whole { handles = filter (λ (h : ℕ × Handle). not (h.1.pass == pass)) whole.handles }) r.id ≡ not (is_among inodes r.id))
     → IsStep t (tables_after (removals t inodes t) t) (effect whole pass ops.Leave now) 0
-left_files_step t whole p pass now inodes v unique well same made bare apart dead =
+bare_files_step t whole p pass now inodes v unique well same made bare apart dead =
     IsStep-less t (tables_after (removals t inodes t) t) (effect whole pass ops.Leave now) p swept.owes represents (IsWellFormed-effect whole pass now ops.Leave well refl)
     swept.unique swept.less
   where
-    or_false : (b : Bool) → (b || false) ≡ b
-    or_false true = refl
-    or_false false = refl
-
     swept : IsSwept t (tables_after (removals t inodes t) t) p (is_among inodes)
-    swept =
-        subst (λ (d : ℕ → Bool). IsSwept t (tables_after (removals t inodes t) t) p d) (λ i y. or_false (is_among inodes y) i)
-        (swept_all t p inodes t (λ x. false) (IsSwept-none t p (Owes-IsValid t p v made)) (λ x among. (bare x among, refl)) apart)
+    swept = swept_files t p inodes v made bare apart
 
     not_true : (b : Bool) → not b ≡ true → b ≡ false
     not_true true is = absurd (cc is)

@@ -5,6 +5,7 @@ pub mod Entering
 pub mod Holding
 pub mod Leaving
 pub mod LeftFiles
+pub mod LeftPlaces
 pub mod Less
 pub mod Linking
 pub mod Living

@@ -1,5 +1,5 @@
 -- Steps before which the places of files that go name no block any more.
-use Rattle.std.proofs.Common.{◌≡◌, ℕ, List, [], ◌∷◌, ◌++◌, Bool, true, false, Option, None, refl, sym, ap, ◌∙◌, subst, arith, eqb-true}
+use Rattle.std.proofs.Common.{◌≡◌, ℕ, List, [], ◌∷◌, ◌++◌, Bool, true, false, Option, None, refl, sym, ap, ◌∙◌, arith, eqb-true}
 use Rattle.std.specs.Prelude.{IsTrue, not, ◌&&◌, ◌==◌, is_some, length, nat_le, option_map, unwrap_or}
 use Rattle.std.specs.Cmp.{nat_cmp_total}
 use Rattle.std.proofs.lemmas.Bool.Decides.{nat_tests}
@@ -16,15 +16,14 @@ use Rattle.s3_rows.specs.Validity.{IsValid}
 use Rattle.row_lemmas.proofs.Tests.{list_all_weaker}
 use Rattle.row_lemmas.proofs.Keyed.Without.{row_at-without_same}
 use Rattle.row_lemmas.proofs.Tables.{tables_after-tables_after}
-use Rattle.tree_rows.specs.Shapes.{Represents}
 use Rattle.tree_rows.specs.Spots.{form_at}
 use Rattle.ref_counts.specs.Links.{places_dropped, places_from}
-use Rattle.ref_counts.specs.Plans.{IsStep, next_inode_of, next_name_of, settings, uses_of}
+use Rattle.ref_counts.specs.Plans.{IsStep, next_inode_of, next_name_of, settings}
 use Rattle.ref_counts.specs.Removals.{attrs_dropped, attrs_of, removal, removals, target_dropped}
 use Rattle.block_steps.specs.Owed.{KeepsNames}
 use Rattle.block_steps.proofs.DebtsTables.{OwesPlaces-IsValid}
-use Rattle.block_steps.proofs.DroppedPlaces.{AreRowsOf-places_dropped, IsValid-places_dropped, KeepsNames-places_dropped, form_at-places_from, inode_blocks-places_from, params-places_dropped}
-use Rattle.block_steps.proofs.KeptNames.{AreRowsOf-trans, HasUniqueNames-KeepsNames, Represents-KeepsNames}
+use Rattle.block_steps.proofs.DroppedPlaces.{AreRowsOf-places_dropped, KeepsNames-places_dropped, form_at-places_from, inode_blocks-places_from, params-places_dropped}
+use Rattle.block_steps.proofs.KeptNames.{AreRowsOf-trans, HasUniqueNames-KeepsNames}
 
 module _ (t : Tables) (rows : List InodeBlock) where
   abbrev pub cleared : Tables

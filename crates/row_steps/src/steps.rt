@@ -20,9 +20,9 @@ ghost use Rattle.tree_rows.specs.NamedAttrs.{attr_of_name};
 ghost use Rattle.tree_rows.specs.Shapes.{Represents};
 ghost use Rattle.ref_counts.specs.Names.{Raised, raised};
 ghost use Rattle.ref_counts.specs.Plans.{IsStep};
-ghost use Rattle.ref_counts.specs.Removals.{removal, removals};
-ghost use Rattle.row_steps.specs.Owed.{IsBare, Owes};
-ghost use Rattle.row_steps.specs.RowChanges.{adding_attr, creation, dropping, link_creation, linking, new_directory_row, new_file_row, removing_attr, setting_attr, settling, unlinking, with_drawn, counted_row};
+ghost use Rattle.ref_counts.specs.Removals.{removal};
+ghost use Rattle.row_steps.specs.Owed.{Owes};
+ghost use Rattle.row_steps.specs.RowChanges.{adding_attr, creation, dropping, leaving, link_creation, linking, new_directory_row, new_file_row, removing_attr, setting_attr, settling, unlinking, with_drawn, counted_row};
 
 /// Where no check of an operation on a well-formed tree fails, tables that owe nothing and represent the tree after it are valid.
 pub fn tables_after_operations_are_valid()
@@ -95,14 +95,15 @@ pub fn old_links_are_steps()
         → IsStep t (tables_after (unlinking (nat_lt 1 r.refcount || held) t directory r c n now) t) (effect whole pass (ops.Unlink parent name) now) 0 }
 {}
 
-/// Where a pass leaves, the nameless files go that its handles alone kept, one after the other. No entry is in them, and no block
-/// or slot is of them.
+/// Where a pass leaves, the nameless files go that its handles alone kept, one after the other, after the places of all of them. No entry
+/// is in them, and no slot is of them.
 pub fn left_files_are_steps()
     ensures { (t : Tables) (whole : Tree) (p : Parameters) (pass now : ℕ) (inodes : List ℕ)
         → IsValid t → HasUniqueNames t → IsWellFormed whole → Represents t whole → t.params ≡ Some p
-        → ((x : ℕ) → IsTrue (is_among inodes x) → IsBare t x) → IsTrue (differ (λ a b. b == a) inodes)
+        → ((x : ℕ) → IsTrue (is_among inodes x) → IsTrue (list_all (λ r. not (r.parent == x)) t.contents))
+        → ((x : ℕ) → IsTrue (is_among inodes x) → IsTrue (list_all (λ r. not (r.inode == x)) t.slots)) → IsTrue (differ (λ a b. b == a) inodes)
         → ((r : Inode) → inode_at t r.id ≡ Some r → lives (record whole { handles = filter (λ h. not (h.1.pass == pass)) whole.handles }) r.id ≡ not (is_among inodes r.id))
-        → IsStep t (tables_after (removals t inodes t) t) (effect whole pass ops.Leave now) 0 }
+        → IsStep t (tables_after (leaving t inodes) t) (effect whole pass ops.Leave now) 0 }
 {}
 
 /// Where no check of a Release fails, a file that neither an entry nor another handle keeps goes; else the rows stay.
