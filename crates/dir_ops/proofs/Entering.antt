@@ -14,13 +14,6 @@ use Rattle.ref_counts.specs.Names.{Raised}
 use Rattle.ref_counts.specs.Plans.{IsStep, IsPlanOf, IsWorn}
 use Rattle.dir_ops.specs.Plans.{entry_plan}
 
-pub some_changes : (c : Change) (cs : List Change) → (length (c ∷ cs) == 0) ≡ false
-some_changes c cs = by_case (length (c ∷ cs) == 0) refl
-  where
-    by_case : (b : Bool) → (length (c ∷ cs) == 0) ≡ b → b ≡ false
-    by_case true none = absurd (omega (arith, eqb-true (length (c ∷ cs)) 0 none))
-    by_case false none = refl
-
 module _ (t : Tables) (whole : Tree) (pass : ℕ) (op : Op) (now : ℕ) (usage : Option Raised) (batch_of : Raised → List Change) (reply : Reply) where
   -- No check of the operation fails, and it changes rows. Where the name may be used once more, the tree and the reply come after
   -- the batch; else it is worn.

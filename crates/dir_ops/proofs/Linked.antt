@@ -25,11 +25,12 @@ use Rattle.ref_counts.specs.Names.{Raised, raised}
 use Rattle.ref_counts.specs.Plans.{IsCountWorn, IsStep, IsPlanOf}
 use Rattle.ref_counts.specs.declared.plan.Plan.{Plan}
 use Rattle.ref_counts.specs.declared.plan.Plan.TheVariants as plans
+use Rattle.ref_counts.proofs.NonEmpty.{some_change}
 use Rattle.row_steps.specs.RowChanges.{counted_row, linking}
 use Rattle.dir_ops.specs.Entries.{is_taken}
 use Rattle.dir_ops.specs.Links.{IsLinkable, link_checks}
 use Rattle.dir_ops.specs.Plans.{entry_plan}
-use Rattle.dir_ops.proofs.Entering.{entering_planned, some_changes}
+use Rattle.dir_ops.proofs.Entering.{entering_planned}
 
 -- ---- the rows
 
@@ -98,7 +99,7 @@ module _ (t : Tables) (whole : Tree) (pass inode parent now : ℕ) (name : List 
             worn = inl;
             usable = ⊎_elim (λ none. none) (λ full. absurd (not_full full));
             changes = refl;
-            some = λ more. some_changes (changes.PutInode new) _;
+            some = λ more. some_change (changes.PutInode new) _;
             step = λ more used. (steps more used).0;
             replies = λ more used.
                 let is = steps more used in

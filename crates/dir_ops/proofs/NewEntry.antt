@@ -15,9 +15,10 @@ use Rattle.s3_rows.specs.Batches.{tables_after}
 use Rattle.s3_rows.specs.Selections.{name_of_bytes}
 use Rattle.ref_counts.specs.Names.{Raised, raised, raised_of}
 use Rattle.ref_counts.specs.Plans.{IsStep, IsPlanOf, IsWorn}
+use Rattle.ref_counts.proofs.NonEmpty.{some_change}
 use Rattle.row_steps.specs.RowChanges.{creation, drawn, with_drawn}
 use Rattle.dir_ops.specs.Plans.{entry_plan}
-use Rattle.dir_ops.proofs.Entering.{entering_planned, some_changes}
+use Rattle.dir_ops.proofs.Entering.{entering_planned}
 
 -- ---- names that are worn
 
@@ -65,7 +66,7 @@ module _ (t : Tables) (whole : Tree) (pass : ℕ) (op : Op) (now : ℕ) (p : Par
         worn = λ none. making.worn (none_from_drawn t p name making.set none);
         usable = λ worn. none_if_drawn t p name making.set (making.usable worn);
         changes = making.changes;
-        some = λ more. some_changes (changes.SetParams (drawn p)) _;
+        some = λ more. some_change (changes.SetParams (drawn p)) _;
         step = making.step;
         replies = making.replies;
       }) batch is

@@ -33,12 +33,12 @@ use Rattle.ref_counts.specs.Plans.{IsStep, IsPlanOf}
 use Rattle.ref_counts.specs.Removals.{removal}
 use Rattle.ref_counts.specs.declared.plan.Plan.{Plan}
 use Rattle.ref_counts.specs.declared.plan.Plan.TheVariants as plans
+use Rattle.ref_counts.proofs.NonEmpty.{some_change}
 use Rattle.row_steps.specs.RowChanges.{dropping, touched_row}
 use Rattle.row_steps.proofs.Leaving.{IsLeaving, child_number, named}
 use Rattle.dir_ops.specs.declared.old_entry.OldEntry.{OldEntry}
 use Rattle.dir_ops.specs.OldEntries.{IsOldEntry}
 use Rattle.dir_ops.specs.Plans.{entry_plan}
-use Rattle.dir_ops.proofs.Entering.{some_changes}
 use Rattle.dir_ops.proofs.FirstFailures.{failure_stays, first_failure-behind}
 use Rattle.dir_ops.proofs.OldEntries.{child_is, child_parts, is_leaving, old_name}
 
@@ -137,4 +137,4 @@ module _ (t : Tables) (whole : Tree) (v : IsValid t) (unique : HasUniqueNames t)
         let more : List Change = changes.PutInode (touched_row now old.directory) ∷ lowered n ++ removal t old.child.id (tables_after (dropping old.directory old.entry n now) t) in
         let all_pass = checks-rows full full_is ∙ passes in
         subst (λ (p : Plan). IsPlanOf t whole pass (ops.Rmdir parent name) now p) (sym (plan_is ∙ ap (λ (b : List Change). entry_plan (Some b) replies.Done) made))
-        (all_pass, refl, step n leaves.bytes leaves.entry leaves.child all_pass, some_changes (changes.DeleteContent old.entry.parent old.entry.name_id) more, refl, λ worn. worn)
+        (all_pass, refl, step n leaves.bytes leaves.entry leaves.child all_pass, some_change (changes.DeleteContent old.entry.parent old.entry.name_id) more, refl, λ worn. worn)

@@ -22,17 +22,18 @@ use Rattle.tree_rows.specs.Shapes.{Represents}
 use Rattle.op_checks.specs.Rows.{no_directory_row_check, lock_row_check}
 use Rattle.op_checks.proofs.Nodes.{no_directory_check-row, lock_check-row}
 use Rattle.ref_counts.specs.Handles.{OpenHandles, HasHandles, is_held}
+use Rattle.ref_counts.specs.Links.{places_of_gone}
 use Rattle.ref_counts.specs.Names.{lowered}
 use Rattle.ref_counts.specs.Plans.{IsStep, IsPlanOf}
 use Rattle.ref_counts.specs.Removals.{removal}
 use Rattle.ref_counts.specs.declared.plan.Plan.{Plan}
 use Rattle.ref_counts.specs.declared.plan.Plan.TheVariants as plans
+use Rattle.ref_counts.proofs.NonEmpty.{some_between}
 use Rattle.row_steps.specs.RowChanges.{counted_row, dropping, touched_row, unlinking}
 use Rattle.row_steps.proofs.Leaving.{child_number, named}
 use Rattle.dir_ops.specs.declared.old_entry.OldEntry.{OldEntry}
 use Rattle.dir_ops.specs.OldEntries.{IsOldEntry}
 use Rattle.dir_ops.specs.Plans.{entry_plan}
-use Rattle.dir_ops.proofs.Entering.{some_changes}
 use Rattle.dir_ops.proofs.FirstFailures.{failure_stays, first_failure-behind}
 use Rattle.dir_ops.proofs.OldEntries.{child_is, child_parts, is_leaving, old_name}
 
@@ -83,15 +84,16 @@ module _ (t : Tables) (whole : Tree) (pass parent now : ℕ) (name : List ℕ) w
         ∙ ap (λ k. unlinking k t old.directory old.child old.entry n now) kept_is in
         let number : old.entry.inode ≡ old.child.id = child_number t whole v.params old.directory old.child old.entry n now parent name own in
         let held : is_open whole old.entry.inode ≡ is_held h old.child.id = λ i. list_any (λ (e : ℕ × Handle). e.1.inode == number i) (has.1 i) in
-        let more : List Change = changes.PutInode (touched_row now old.directory) ∷ lowered n
-        ++ cond (nat_lt 1 old.child.refcount || is_held h old.child.id) (changes.PutInode (counted_row (old.child.refcount - 1) now old.child) ∷ [])
-        (removal t old.child.id (tables_after (dropping old.directory old.entry n now) t)) in
+        let places : List Change = places_of_gone (nat_lt 1 old.child.refcount || is_held h old.child.id) t old.child.id in
+        let more : List Change = changes.PutInode (touched_row now old.directory) ∷ lowered n in
+        let last : List Change = cond (nat_lt 1 old.child.refcount || is_held h old.child.id) (changes.PutInode (counted_row (old.child.refcount - 1) now old.child) ∷ [])
+        (removal t old.child.id (tables_after (places ++ dropping old.directory old.entry n now) t)) in
         let all_pass = checks-rows ∙ passes in
         subst (λ (p : Plan). IsPlanOf t whole pass (ops.Unlink parent name) now p) (sym (plan_is ∙ ap (λ (b : List Change). entry_plan (Some b) replies.Done) made)) (
           all_pass,
           refl,
           step n (is_held h old.child.id) own.bytes own.entry own.child held all_pass,
-          some_changes (changes.DeleteContent old.entry.parent old.entry.name_id) more,
+          some_between places (changes.DeleteContent old.entry.parent old.entry.name_id) more last,
           refl,
           λ worn. worn,
         )

@@ -39,13 +39,14 @@ use Rattle.ref_counts.specs.declared.plan.Plan.{Plan}
 use Rattle.ref_counts.specs.declared.plan.Plan.TheVariants as plans
 use Rattle.ref_counts.proofs.Named.{delete_found, put_found}
 use Rattle.ref_counts.proofs.Overlay.{kept}
+use Rattle.ref_counts.proofs.NonEmpty.{some_change}
 use Rattle.row_steps.specs.RowChanges.{dropping, moving, other_name, replacing, same_name, touched_row}
 use Rattle.row_steps.proofs.Leaving.{HasUniqueNames-dropped, IsLeaving, name_is, named}
 use Rattle.dir_ops.specs.declared.moves.Move.{Move}
 use Rattle.dir_ops.specs.Moves.{IsMove, both_checks, is_itself, moved_changes, over_checks}
 use Rattle.dir_ops.specs.OldEntries.{child_named}
 use Rattle.dir_ops.specs.Plans.{entry_plan}
-use Rattle.dir_ops.proofs.Entering.{entering_planned, some_changes}
+use Rattle.dir_ops.proofs.Entering.{entering_planned}
 use Rattle.dir_ops.proofs.FirstFailures.{failure_stays}
 use Rattle.dir_ops.proofs.Moving.{itself_is, itself_passes, move_checks-rows, old_is, replaced_is, used_is}
 use Rattle.dir_ops.proofs.OldEntries.{child_parts, is_leaving, name_found, old_name}
@@ -213,7 +214,7 @@ module _ (t : Tables) (whole : Tree) (pass parent new_parent now : ℕ) (name ne
 
           -- no batch is empty
           changes_rows : (rest : List Change) → (length (changes.DeleteContent m.old.entry.parent m.old.entry.name_id ∷ rest) == 0) ≡ is_itself m
-          changes_rows rest = some_changes (changes.DeleteContent m.old.entry.parent m.old.entry.name_id) rest ∙ sym moves
+          changes_rows rest = some_change (changes.DeleteContent m.old.entry.parent m.old.entry.name_id) rest ∙ sym moves
 
           module _ (none : None ≡ m.replaced) where
             absent : entry_at whole new_parent new_name ≡ None
@@ -240,7 +241,7 @@ module _ (t : Tables) (whole : Tree) (pass parent new_parent now : ℕ) (name ne
                   worn = λ none_left. subst (IsNameWorn t) (sym one_more) (sym raised_is ∙ none_left);
                   usable = λ worn. raised_is ∙ subst (IsNameWorn t) one_more worn;
                   changes = keeps ∙ moves;
-                  some = λ more. some_changes (changes.DeleteContent m.old.entry.parent m.old.entry.name_id) (drop 1 (renamed more));
+                  some = λ more. some_change (changes.DeleteContent m.old.entry.parent m.old.entry.name_id) (drop 1 (renamed more));
                   step = λ more some.
                       subst (λ (u : Option (List ℕ)). IsStep t (tables_after (renamed more) t) (effect whole pass op now) (cond (is_some u) 1 0)) (sym one_more)
                       (steps.other_name n more leaves.bytes leaves.entry leaves.child passes absent some);

@@ -15,7 +15,7 @@ ghost use Rattle.dir_ops.specs.Moves.{moved_changes};
 use crate::moves::Move;
 use crate::old_entry::{drop_entry, lift_entry};
 use crate::old_link::{drop_link, is_kept};
-use ref_counts::{Handles, name_up};
+use ref_counts::{Handles, drop_gone_links, name_up};
 use s3_base::ByteList;
 use s3_rows::{Batch, Change, ContentRow, InodeRow, Keeper, KeeperFault};
 use std::alloc::{AllocError, Global};
@@ -51,7 +51,8 @@ fn move_under_same_name(alloc: Global, moved: &Move, now: u64) -> Result<Batch, 
     requires { now < 2 ^ 62 }
     ensures { IfOk result (λ b. b ≡ moving moved.now.old.directory moved.now.directory moved.now.old.entry (same_name moved.now.old.entry) moved.now.old.child now) }
 {
-    let mut batch = lift_entry(alloc, &moved.old, now)?;
+    let mut batch = Batch::new(alloc);
+    lift_entry(&mut batch, &moved.old, now)?;
     put_moved(&mut batch, moved, moved.old.entry.name_id, now)?;
     Ok(batch)
 }
@@ -73,7 +74,8 @@ fn move_under_other_name<K: Keeper>(
     ensures same { K.told keeper.new ≡ K.told keeper.old }
     ensures cause { HasCause (K.faults keeper.old) (K.faults keeper.new) (has_failed result) }
 {
-    let mut batch = drop_entry(alloc, keeper, &moved.old, now)?;
+    let mut batch = Batch::new(alloc);
+    drop_entry(keeper, &mut batch, &moved.old, now)?;
     let Some(name_id) = name_up(keeper, &mut batch, new_name)? else {
         return Ok(None);
     };
@@ -97,7 +99,8 @@ fn move_over<K: Keeper>(
     ensures same { K.told keeper.new ≡ K.told keeper.old }
     ensures cause { HasCause (K.faults keeper.old) (K.faults keeper.new) (has_failed result) }
 {
-    let mut batch = drop_entry(alloc, keeper, &moved.old, now)?;
+    let mut batch = drop_gone_links(alloc, keeper, kept, replaced.id)?;
+    drop_entry(keeper, &mut batch, &moved.old, now)?;
     put_moved(&mut batch, moved, entry.name_id, now)?;
     drop_link(keeper, &mut batch, kept, replaced, now)?;
     Ok(batch)

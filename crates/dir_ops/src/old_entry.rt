@@ -1,10 +1,11 @@
 //! An entry of a directory that goes, whatever it names.
-ghost use Rattle.std.specs.Prelude.{◌≡◌, ◌<◌, ◌^◌, [], ◌∷◌, Some, IfOk};
+ghost use Rattle.std.specs.Prelude.{◌≡◌, ◌<◌, ◌^◌, ◌++◌, [], ◌∷◌, Some, IfOk, OnOk};
 ghost use Rattle.s3_base.specs.Faults.{HasCause};
 ghost use Rattle.plain_tree.specs.Tree.{Tree};
 ghost use Rattle.plain_tree.specs.Checks.{first_failure, keep_check, name_check};
 ghost use Rattle.s3_rows.specs.declared.change.Change.TheVariants as changes;
 ghost use Rattle.s3_rows.specs.Rows.{Name};
+ghost use Rattle.s3_rows.specs.Batches.{tables_after};
 ghost use Rattle.s3_rows.specs.Selections.{inode_at, name_at};
 ghost use Rattle.s3_rows.specs.Told.{IfTold, has_failed};
 ghost use Rattle.s3_rows.specs.Validity.{IsValid, HasUniqueNames};
@@ -19,7 +20,7 @@ use op_checks::{check_directory, check_keep, check_name, check_node, check_unloc
 use ref_counts::name_down;
 use s3_base::{ByteList, Errno};
 use s3_rows::{Batch, Change, ContentRow, InodeRow, Keeper, KeeperFault};
-use std::alloc::{AllocError, Global};
+use std::alloc::AllocError;
 
 /// The directory, its entry that goes, and the inode that the entry names.
 #[derive(Clone, Copy, Debug)]
@@ -108,37 +109,35 @@ pub fn find_old_entry<K: Keeper>(
     Ok(check_old_entry(parent, name, found, child))
 }
 
-/// The batch by which an entry is deleted and its directory touched at the time `now`; the uses of its name are as before.
-pub fn lift_entry(alloc: Global, old: &OldEntry, now: u64) -> Result<Batch, AllocError>
+/// Adds the changes by which an entry is deleted and its directory touched at the time `now`; the uses of its name are as before.
+pub fn lift_entry(batch: &mut Batch, old: &OldEntry, now: u64) -> Result<(), AllocError>
     requires { now < 2 ^ 62 }
-    ensures { IfOk result (λ b. b ≡ changes.DeleteContent old.now.entry.parent old.now.entry.name_id ∷ changes.PutInode (touched_row now old.now.directory) ∷ []) }
+    ensures { OnOk result (batch.new ≡ batch.old ++ changes.DeleteContent old.now.entry.parent old.now.entry.name_id ∷ changes.PutInode (touched_row now old.now.directory) ∷ []) }
 {
     let directory = old.directory;
     let entry = old.entry;
-    let mut batch = Batch::new(alloc);
     batch.push(Change::DeleteContent(entry.parent, entry.name_id))?;
     batch.push(Change::PutInode(InodeRow {
         mtime: now,
         ctime: now,
         ..directory
     }))?;
-    Ok(batch)
+    Ok(())
 }
 
-/// The batch by which an entry goes: it is deleted, its directory touched at the time `now`, and its name used once less.
+/// Adds the changes by which an entry goes: it is deleted, its directory touched at the time `now`, and its name used once less.
 pub fn drop_entry<K: Keeper>(
-    alloc: Global,
     keeper: &mut K,
+    batch: &mut Batch,
     old: &OldEntry,
     now: u64,
-) -> Result<Batch, KeeperFault>
+) -> Result<(), KeeperFault>
     requires { now < 2 ^ 62 }
-    ensures batch { IfOk result (λ b. IfTold (K.told keeper.old) (λ t. (n : Name) → name_at t old.now.entry.name_id ≡ Some n → b ≡ dropping old.now.directory old.now.entry n now)) }
+    ensures dropped { OnOk result (IfTold (K.told keeper.old) (λ t. (n : Name) → name_at (tables_after batch.old t) old.now.entry.name_id ≡ Some n
+        → batch.new ≡ batch.old ++ dropping old.now.directory old.now.entry n now)) }
     ensures same { K.told keeper.new ≡ K.told keeper.old }
     ensures cause { HasCause (K.faults keeper.old) (K.faults keeper.new) (has_failed result) }
 {
-    let name_id = old.entry.name_id;
-    let mut batch = lift_entry(alloc, old, now)?;
-    name_down(keeper, &mut batch, name_id)?;
-    Ok(batch)
+    lift_entry(batch, old, now)?;
+    name_down(keeper, batch, old.entry.name_id)
 }

@@ -35,7 +35,7 @@ fn rename<K: Keeper>(
 ) -> Result<Plan, KeeperFault>
     requires name { name_check new_name.now ≡ None }
     requires now { now < 2 ^ 62 }
-    ensures plan { IfOk result (λ p. IfTold (K.told keeper.old) (λ t. IsValid t → HasUniqueNames t → t.inode_blocks ≡ [] → t.slots ≡ []
+    ensures plan { IfOk result (λ p. IfTold (K.told keeper.old) (λ t. IsValid t → HasUniqueNames t → t.slots ≡ []
         → (whole : Tree) (pass parent new_parent : ℕ) (name : List ℕ) → Represents t whole → IsWellFormed whole → HasHandles handles.now whole
         → IsMove t whole parent name new_parent new_name.now (Ok moved.now) → same ≡ pointwise nat_eq name new_name.now
         → IsPlanOf t whole pass (ops.Rename parent name new_parent new_name.now) now p)) }
@@ -72,7 +72,7 @@ pub fn plan_rename<K: Keeper>(
     now: u64,
 ) -> Result<Plan, KeeperFault>
     requires { now < 2 ^ 62 }
-    ensures plan { IfOk result (λ p. IfTold (K.told keeper.old) (λ t. IsValid t → HasUniqueNames t → t.inode_blocks ≡ [] → t.slots ≡ []
+    ensures plan { IfOk result (λ p. IfTold (K.told keeper.old) (λ t. IsValid t → HasUniqueNames t → t.slots ≡ []
         → (whole : Tree) (pass : ℕ) → Represents t whole → IsWellFormed whole → HasHandles handles.now whole
         → IsPlanOf t whole pass (ops.Rename parent name.now new_parent new_name.now) now p)) }
     ensures same { K.told keeper.new ≡ K.told keeper.old }

@@ -54,7 +54,8 @@ fn drop_directory<K: Keeper>(
     ensures cause { HasCause (K.faults keeper.old) (K.faults keeper.new) (has_failed result) }
 {
     let child = old.child;
-    let mut batch = drop_entry(alloc, keeper, old, now)?;
+    let mut batch = Batch::new(alloc);
+    drop_entry(keeper, &mut batch, old, now)?;
     drop_file(keeper, &mut batch, child.id)?;
     Ok(batch)
 }

@@ -24,7 +24,7 @@ use crate::old_entry::{OldEntry, drop_entry, find_old_entry};
 use crate::old_link::{drop_link, is_kept};
 use op_checks::{check_no_directory, check_unlocked};
 use op_frames::Reply;
-use ref_counts::{Handles, Plan};
+use ref_counts::{Handles, Plan, drop_gone_links};
 use row_steps::old_links_are_steps;
 use s3_base::{ByteList, Errno};
 use s3_rows::{Batch, InodeRow, Keeper, KeeperFault};
@@ -53,7 +53,8 @@ fn drop_named<K: Keeper>(
     ensures cause { HasCause (K.faults keeper.old) (K.faults keeper.new) (has_failed result) }
 {
     let child = old.child;
-    let mut batch = drop_entry(alloc, keeper, old, now)?;
+    let mut batch = drop_gone_links(alloc, keeper, kept, child.id)?;
+    drop_entry(keeper, &mut batch, old, now)?;
     drop_link(keeper, &mut batch, kept, &child, now)?;
     Ok(batch)
 }
@@ -67,7 +68,7 @@ fn unlink<K: Keeper>(
     now: u64,
 ) -> Result<Plan, KeeperFault>
     requires { now < 2 ^ 62 }
-    ensures plan { IfOk result (λ p. IfTold (K.told keeper.old) (λ t. IsValid t → HasUniqueNames t → t.inode_blocks ≡ [] → t.slots ≡ []
+    ensures plan { IfOk result (λ p. IfTold (K.told keeper.old) (λ t. IsValid t → HasUniqueNames t → t.slots ≡ []
         → (whole : Tree) (pass parent : ℕ) (name : List ℕ) → Represents t whole → IsWellFormed whole → HasHandles handles.now whole
         → IsOldEntry t whole parent name (Ok old.now) → IsPlanOf t whole pass (ops.Unlink parent name) now p)) }
     ensures same { K.told keeper.new ≡ K.told keeper.old }
@@ -93,7 +94,7 @@ pub fn plan_unlink<K: Keeper>(
     now: u64,
 ) -> Result<Plan, KeeperFault>
     requires { now < 2 ^ 62 }
-    ensures plan { IfOk result (λ p. IfTold (K.told keeper.old) (λ t. IsValid t → HasUniqueNames t → t.inode_blocks ≡ [] → t.slots ≡ []
+    ensures plan { IfOk result (λ p. IfTold (K.told keeper.old) (λ t. IsValid t → HasUniqueNames t → t.slots ≡ []
         → (whole : Tree) (pass : ℕ) → Represents t whole → IsWellFormed whole → HasHandles handles.now whole → IsPlanOf t whole pass (ops.Unlink parent name.now) now p)) }
     ensures same { K.told keeper.new ≡ K.told keeper.old }
     ensures cause { HasCause (K.faults keeper.old) (K.faults keeper.new) (has_failed result) }

@@ -23,6 +23,7 @@ use Rattle.plain_tree.specs.Operations.{checks}
 use Rattle.plain_tree.specs.WellFormed.{IsWellFormed, is_file}
 use Rattle.s3_rows.specs.declared.change.Change.{Change}
 use Rattle.s3_rows.specs.declared.change.Change.TheVariants as changes
+use Rattle.s3_rows.specs.Rows as s3_rows
 use Rattle.s3_rows.specs.Rows.{Inode, InodeBlock, Slot}
 use Rattle.s3_rows.specs.Keyed.{has_key}
 use Rattle.s3_rows.specs.Tables.{Tables, by_inode}
@@ -37,35 +38,27 @@ use Rattle.tree_rows.proofs.Whole.{folder_is, number_of}
 use Rattle.op_checks.specs.Rows.{open_row_check}
 use Rattle.op_checks.proofs.Nodes.{node_there}
 use Rattle.ref_counts.specs.Handles.{OpenHandles, HasHandles, closed, closed_all, inode_open, is_held, is_held_alone}
+use Rattle.ref_counts.specs.Links.{places_dropped, places_from, places_of, places_of_gone}
 use Rattle.ref_counts.specs.Plans.{IsPlanOf}
 use Rattle.ref_counts.specs.Removals.{attrs_dropped, attrs_of, removal, removals, target_dropped}
 use Rattle.ref_counts.specs.declared.plan.Plan.TheVariants as plans
 use Rattle.ref_counts.proofs.Idle.{IsWorn-nameless}
-use Rattle.row_steps.specs.Owed.{IsBare}
-use Rattle.row_steps.specs.RowChanges.{settling}
-use Rattle.row_steps.proofs.LeftFiles.{left_files_step}
+use Rattle.ref_counts.proofs.NextPlaces.{places_dropped-append}
+use Rattle.ref_counts.proofs.NonEmpty.{some_before, some_behind, some_changes}
+use Rattle.row_steps.specs.RowChanges.{leaving, settling}
+use Rattle.row_steps.proofs.LeftPlaces.{left_files_step}
 use Rattle.row_steps.proofs.Living.{kept-refcount}
-use Rattle.row_steps.proofs.OldFiles.{IsBare-empty, old_file_step}
+use Rattle.row_steps.proofs.OldFiles.{no_entries, old_file_step}
 use Rattle.row_steps.proofs.Owed.Contents.{differ-filter}
 use Rattle.row_steps.proofs.Owed.Ends.{Owes-IsValid}
-use Rattle.inode_ops.specs.Nameless.{is_nameless, nameless, nameless_dropped}
+use Rattle.inode_ops.specs.Nameless.{is_nameless, nameless, nameless_dropped, nameless_places}
 use Rattle.inode_ops.proofs.Opened.{handle_listed, open_check-row_of}
-use Rattle.inode_ops.proofs.SetAttrs.{some_change}
 
 -- ---- batches that are not empty
 
-some_removal : (attrs target : List Change) (c : Change) → (length (attrs ++ target ++ c ∷ []) == 0) ≡ false
-some_removal (x ∷ xs) target c = some_change x (xs ++ target ++ c ∷ [])
-some_removal [] (x ∷ xs) c = some_change x (xs ++ c ∷ [])
-some_removal [] [] c = some_change c []
-
-some_before : (some rest : List Change) → (length some == 0) ≡ false → (length (some ++ rest) == 0) ≡ false
-some_before [] rest is = absurd (cc is)
-some_before (x ∷ xs) rest is = some_change x (xs ++ rest)
-
 -- the removal of an inode
 removal_some : (told t : Tables) (x : ℕ) → (length (removal told x t) == 0) ≡ false
-removal_some told t x = some_removal (attrs_dropped (attrs_of told x) t) (target_dropped (target_at told x) x) (changes.DeleteInode x)
+removal_some told t x = some_changes (attrs_dropped (attrs_of told x) t ++ target_dropped (target_at told x) x) (changes.DeleteInode x) []
 
 -- ---- Release
 
@@ -85,10 +78,10 @@ module _ (t : Tables) (whole : Tree) (pass number : ℕ) (h : OpenHandles) (inod
       let handle = handle_listed h whole has pass number inode own in
       open_check-row_of t whole pass number handle.0 found same handle.1 (is ∙ ap (inode_at t) handle.2) ∙ ap (λ c. first_failure (c ∷ [])) checked
 
-  pub release_planned : (now : ℕ) (r : Inode) (batch : List Change) → IsValid t → HasUniqueNames t → t.inode_blocks ≡ [] → t.slots ≡ [] → IsWellFormed whole → found ≡ Some r
+  pub release_planned : (now : ℕ) (r : Inode) (batch : List Change) → IsValid t → HasUniqueNames t → t.slots ≡ [] → IsWellFormed whole → found ≡ Some r
       → open_row_check found ≡ None → batch ≡ settling (not (r.refcount == 0) || is_held (closed number h) r.id) t r.id
       → IsPlanOf t whole pass (ops.Release number) now (plans.Commit batch replies.Done [])
-  release_planned now r batch v unique blocks slots well some checked made =
+  release_planned now r batch v unique slots well some checked made =
       let handle = handle_listed h whole has pass number inode own in
       let row : inode_at t handle.0.inode ≡ Some r = ap (inode_at t) (sym handle.2) ∙ sym is ∙ some in
       let number_is : handle.0.inode ≡ r.id = number_of t handle.0.inode r row in
@@ -97,14 +90,13 @@ module _ (t : Tables) (whole : Tree) (pass number : ℕ) (h : OpenHandles) (inod
       let passes : first_failure (checks whole pass (ops.Release number)) ≡ None = checked_release None checked in
       let step = old_file_step t whole v.params r handle.0 pass number now (is_held (closed number h) r.id) v unique well same v.is_made handle.1 row
       (regular_row r (ap open_row_check (sym some) ∙ checked))
-      (subst (λ (rows : List InodeBlock). IsTrue (list_all (λ (x : InodeBlock). not (x.inode == r.id)) rows)) (sym blocks) refl)
       (subst (λ (rows : List Slot). IsTrue (list_all (λ (x : Slot). not (x.inode == r.id)) rows)) (sym slots) refl) held passes in
       subst (λ cs. IsPlanOf t whole pass (ops.Release number) now (plans.Commit cs replies.Done [])) (sym made)
       (passes, refl, step.0, few (not (r.refcount == 0) || is_held (closed number h) r.id) ∙ sym step.1, refl, IsWorn-nameless t whole (ops.Release number) refl)
     where
       few : (kept : Bool) → (length (settling kept t r.id) == 0) ≡ kept
       few true = refl
-      few false = removal_some t t r.id
+      few false = some_behind (places_of_gone false t r.id) (removal t r.id (tables_after (places_of_gone false t r.id) t)) (removal_some t (tables_after (places_of_gone false t r.id) t) r.id)
 
 -- ---- nameless inodes, one after the other
 
@@ -127,6 +119,27 @@ nameless_next t before after x xs added = ap (λ cs. cs ++ removals t (nameless 
         append_assoc before (removal t x (tables_after before t)) (removals t (nameless t xs) (tables_after (before ++ removal t x (tables_after before t)) t))
         ∙ ap (λ u. before ++ (removal t x (tables_after before t) ++ removals t (nameless t xs) u)) (sym (tables_after-tables_after before (removal t x (tables_after before t)) t))
     by_case false = ap (λ cs. cs ++ removals t (nameless t xs) (tables_after cs t)) (append-nil before)
+
+-- and so for the places of one
+pub nameless_places_next : (t : Tables) (before after : List Change) (x : ℕ) (xs : List ℕ) → after ≡ before ++ places_dropped (nameless_places t x) (tables_after before t)
+    → after ++ places_dropped (places_of t (nameless t xs)) (tables_after after t) ≡ before ++ places_dropped (places_of t (nameless t (x ∷ xs))) (tables_after before t)
+nameless_places_next t before after x xs added = ap (λ cs. cs ++ places_dropped (places_of t (nameless t xs)) (tables_after cs t)) added ∙ by_case (is_nameless (inode_at t x))
+  where
+    by_case : (b : Bool)
+        → (before ++ places_dropped (cond b (places_from t x 0) []) (tables_after before t))
+        ++ places_dropped (places_of t (nameless t xs)) (tables_after (before ++ places_dropped (cond b (places_from t x 0) []) (tables_after before t)) t)
+        ≡ before ++ places_dropped (places_of t (cond b (x ∷ nameless t xs) (nameless t xs))) (tables_after before t)
+    by_case true =
+        let own : List Change = places_dropped (places_from t x 0) (tables_after before t) in
+        append_assoc before own (places_dropped (places_of t (nameless t xs)) (tables_after (before ++ own) t))
+        ∙ ap (λ (u : Tables). before ++ (own ++ places_dropped (places_of t (nameless t xs)) u)) (sym (tables_after-tables_after before own t))
+        ∙ ap (λ (cs : List Change). before ++ cs) (sym (places_dropped-append (places_from t x 0) (places_of t (nameless t xs)) (tables_after before t)))
+    by_case false = ap (λ cs. cs ++ places_dropped (places_of t (nameless t xs)) (tables_after cs t)) (append-nil before)
+
+pub nameless_places_go : (t u : Tables) (x : ℕ) (r : Inode) → inode_at t x ≡ Some r → (r.refcount == 0) ≡ true → places_dropped (places_from t r.id 0) u ≡ places_dropped (nameless_places t x) u
+nameless_places_go t u x r there none =
+    ap (λ y. places_dropped (places_from t y 0) u) (sym (number_of t x r there))
+    ∙ sym (ap (λ b. places_dropped (cond b (places_from t x 0) []) u) (ap is_nameless there ∙ none))
 
 -- ---- Leave
 
@@ -158,10 +171,11 @@ list_all_agree p q (x ∷ xs) same = λ i. same.0 i && list_all_agree p q xs sam
 
 -- where all that go have rows, none goes exactly where all rows stay
 none_goes : (t : Tables) (ys : List ℕ) → ((y : ℕ) → IsTrue (is_among ys y) → (r : Inode) × (inode_at t y ≡ Some r))
-    → (length (removals t ys t) == 0) ≡ list_all (λ (r : Inode). not (is_among ys r.id)) t.inodes
+    → (length (leaving t ys) == 0) ≡ list_all (λ (r : Inode). not (is_among ys r.id)) t.inodes
 none_goes t [] there = sym (list_all_true t.inodes)
 none_goes t (y ∷ ys) there =
-    some_before (removal t y t) _ (removal_some t t y) ∙ sym (by_all (list_all (λ (r : Inode). not (is_among (y ∷ ys) r.id)) t.inodes) refl)
+    some_behind (places_dropped (places_of t (y ∷ ys)) t) (removals t (y ∷ ys) (tables_after (places_dropped (places_of t (y ∷ ys)) t) t))
+    (some_before (removal t y (tables_after (places_dropped (places_of t (y ∷ ys)) t) t)) _ (removal_some t (tables_after (places_dropped (places_of t (y ∷ ys)) t) t) y)) ∙ sym (by_all (list_all (λ (r : Inode). not (is_among (y ∷ ys) r.id)) t.inodes) refl)
   where
     by_all : (b : Bool) → list_all (λ (r : Inode). not (is_among (y ∷ ys) r.id)) t.inodes ≡ b → b ≡ false
     by_all true all =
@@ -215,12 +229,12 @@ module _ (t : Tables) (whole : Tree) (h : OpenHandles) (pass : ℕ) (held : List
             ∙ no_folder (node_at whole x) file,
       )
 
-  bare : t.inode_blocks ≡ [] → t.slots ≡ [] → (x : ℕ) → IsTrue (is_among (nameless t held) x) → IsBare t x
-  bare blocks slots x among =
+  empty : (x : ℕ) → IsTrue (is_among (nameless t held) x) → IsTrue (list_all (λ (r : s3_rows.Content). not (r.parent == x)) t.contents)
+  empty x among =
       let row = lost_row x among in
       let number : x ≡ row.0.id = number_of t x row.0 row.1 in
-      subst (λ y. IsBare t y) (sym number)
-      (IsBare-empty t v.params row.0 (Owes-IsValid t v.params v v.is_made) (ap (inode_at t) (sym number) ∙ row.1) row.2 blocks slots)
+      subst (λ y. IsTrue (list_all (λ (r : s3_rows.Content). not (r.parent == y)) t.contents)) (sym number)
+      (no_entries t row.0 (ap (inode_at t) (sym number) ∙ row.1) row.2 (Owes-IsValid t v.params v v.is_made))
 
   -- a nameless file has a handle
   lost_is_held : (r : Inode) → inode_at t r.id ≡ Some r → (r.refcount == 0) ≡ true → is_held h r.id ≡ true
@@ -249,7 +263,7 @@ module _ (t : Tables) (whole : Tree) (h : OpenHandles) (pass : ℕ) (held : List
       by_case true none true = nothing (is_held h r.id)
       by_case true none false = sym (ap (λ b. not (b && true)) (lost_is_held r there none))
 
-  keeps_is : (length (removals t (nameless t held) t) == 0) ≡ keeps_rows whole pass ops.Leave
+  keeps_is : (length (leaving t (nameless t held)) == 0) ≡ keeps_rows whole pass ops.Leave
   keeps_is =
       let lives_on : ℕ × NodeShape → Bool = λ e. lives left e.0 in
       let of_node : ℕ × Node → ℕ × NodeShape = λ e. (e.0, shape_of_node e.1) in
@@ -264,13 +278,14 @@ module _ (t : Tables) (whole : Tree) (h : OpenHandles) (pass : ℕ) (held : List
       each [] there = tt
       each (r ∷ rs) there = (stays_is r there.0, each rs there.1)
 
-  pub leave_planned : (now : ℕ) (batch : List Change) → HasUniqueNames t → t.inode_blocks ≡ [] → t.slots ≡ [] → IsTrue (differ (λ a b. b == a) held)
-      → batch ≡ removals t (nameless t held) t → IsPlanOf t whole pass ops.Leave now (plans.Commit batch replies.Done [])
-  leave_planned now batch unique blocks slots apart made =
+  pub leave_planned : (now : ℕ) (batch : List Change) → HasUniqueNames t → t.slots ≡ [] → IsTrue (differ (λ a b. b == a) held)
+      → batch ≡ leaving t (nameless t held) → IsPlanOf t whole pass ops.Leave now (plans.Commit batch replies.Done [])
+  leave_planned now batch unique slots apart made =
       subst (λ cs. IsPlanOf t whole pass ops.Leave now (plans.Commit cs replies.Done [])) (sym made) (
         refl,
         refl,
-        left_files_step t whole v.params pass now (nameless t held) v unique well same v.is_made (bare blocks slots)
+        left_files_step t whole v.params pass now (nameless t held) v unique well same v.is_made empty
+            (λ x among. subst (λ (rows : List Slot). IsTrue (list_all (λ (r : Slot). not (r.inode == x)) rows)) (sym slots) refl)
             (differ-filter (λ a b. b == a) is_lost held apart) stays_is,
         keeps_is,
         refl,

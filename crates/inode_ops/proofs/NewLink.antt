@@ -25,7 +25,8 @@ use Rattle.ref_counts.specs.declared.plan.Plan.TheVariants as plans
 use Rattle.row_steps.specs.RowChanges.{creation, drawn, link_creation, new_link_row, with_drawn}
 use Rattle.dir_ops.specs.Places.{place_checks}
 use Rattle.dir_ops.specs.Plans.{entry_plan}
-use Rattle.dir_ops.proofs.Entering.{entering_planned, some_changes}
+use Rattle.ref_counts.proofs.NonEmpty.{some_change}
+use Rattle.dir_ops.proofs.Entering.{entering_planned}
 use Rattle.dir_ops.proofs.NewEntry.{none_if_drawn, none_from_drawn}
 
 -- changes that are put behind a batch, if there is one
@@ -77,7 +78,7 @@ module _ (t : Tables) (whole : Tree) (pass parent uid gid now : ℕ) (name targe
           worn = none_from_drawn t p name set;
           usable = none_if_drawn t p name set;
           changes = refl;
-          some = λ more. some_changes (changes.SetParams (drawn p)) _;
+          some = λ more. some_change (changes.SetParams (drawn p)) _;
           step = steps;
           replies = λ more used.
               let step = steps more used in

@@ -28,22 +28,11 @@ use Rattle.ref_counts.specs.Plans.{IsPlanOf, IsStep, IsWorn}
 use Rattle.ref_counts.specs.declared.plan.Plan.{Plan}
 use Rattle.ref_counts.specs.declared.plan.Plan.TheVariants as plans
 use Rattle.ref_counts.proofs.Idle.{IsWorn-nameless}
+use Rattle.ref_counts.proofs.NonEmpty.{some_change, some_changes}
 use Rattle.row_steps.specs.RowChanges.{adding_attr, removing_attr, setting_attr, stamped_row}
 use Rattle.row_steps.proofs.Attributes.{new_attribute_step, removed_attribute_step, set_attribute_step}
 use Rattle.inode_ops.specs.SetAttrs.{IsAdding, IsSetting}
 use Rattle.inode_ops.proofs.Planned.{there, unlocked}
-
--- a batch with a change in it, behind others
-pub some_change : (c : Change) (cs : List Change) → (length (c ∷ cs) == 0) ≡ false
-some_change c cs = by_case (length (c ∷ cs) == 0) refl
-  where
-    by_case : (b : Bool) → (length (c ∷ cs) == 0) ≡ b → b ≡ false
-    by_case true none = absurd (omega (arith, eqb-true (length (c ∷ cs)) 0 none))
-    by_case false none = refl
-
-some_changes : (before : List Change) (c : Change) (cs : List Change) → (length (before ++ c ∷ cs) == 0) ≡ false
-some_changes [] c cs = some_change c cs
-some_changes (x ∷ xs) c cs = some_change x (xs ++ c ∷ cs)
 
 module _ (t : Tables) (whole : Tree) (pass x now : ℕ) (name : List ℕ) (v : IsValid t) (unique : HasUniqueNames t) (same : Represents t whole)
     (found : Option Inode) (is : found ≡ inode_at t x) (attr : Option Attr) (attr_is : attr ≡ attr_of_name t x name) where

@@ -35,7 +35,7 @@ pub fn plan<K: Keeper>(
     requires planned { IsTrue (is_planned op.now) }
     requires now { now < 2 ^ 62 }
     // No file has blocks yet, in the store or in slots.
-    ensures plan { IfOk result (λ p. IfTold (K.told keeper.old) (λ t. IsValid t → HasUniqueNames t → t.inode_blocks ≡ [] → t.slots ≡ []
+    ensures plan { IfOk result (λ p. IfTold (K.told keeper.old) (λ t. IsValid t → HasUniqueNames t → t.slots ≡ []
         → (whole : Tree) → Represents t whole → IsWellFormed whole → HasHandles handles.now whole → IsPlanOf t whole pass op.now now p)) }
     ensures same { K.told keeper.new ≡ K.told keeper.old }
     ensures cause { HasCause (K.faults keeper.old) (K.faults keeper.new) (has_failed result) }

@@ -4,7 +4,8 @@ pub mod Idle
 pub mod LastChanges
 pub mod Named
 pub mod NamedRows
-mod NextPlaces
+pub mod NextPlaces
+pub mod NonEmpty
 pub mod Numbers
 pub mod Overlay
 mod Relinked

@@ -145,3 +145,13 @@ all_dropped t batch first inode from next found is here left =
             → cond b (x ∷ filter (is_place_from inode next) xs) (filter (is_place_from inode next) xs) ≡ []
         by_case others true there = absurd (cc there)
         by_case others false there = others there
+
+-- places that go behind others
+pub places_dropped-append : (xs ys : List InodeBlock) (t : Tables) → places_dropped (xs ++ ys) t ≡ places_dropped xs t ++ places_dropped ys (tables_after (places_dropped xs t) t)
+places_dropped-append [] ys t = refl
+places_dropped-append (x ∷ xs) ys t =
+    let first : List Change = relinked t x.inode x.blockno None in
+    let now : Tables = tables_after first t in
+    ap (λ (cs : List Change). first ++ cs) (places_dropped-append xs ys now)
+    ∙ ap (λ (u : Tables). first ++ (places_dropped xs now ++ places_dropped ys u)) (tables_after-tables_after first (places_dropped xs now) t)
+    ∙ sym (append_assoc first (places_dropped xs now) (places_dropped ys (tables_after (first ++ places_dropped xs now) t)))

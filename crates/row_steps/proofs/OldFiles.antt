@@ -52,21 +52,12 @@ no_folder None is = refl
 no_folder (Some node) is = not_failed 21 (entries.is_directory node.content) is
 
 -- no entry is in what is no directory
-no_entries : (t : Tables) (r : Inode) → inode_at t r.id ≡ Some r → is_directory r.kind ≡ false → {p : Parameters} → Owes t p [] []
+pub no_entries : (t : Tables) (r : Inode) → inode_at t r.id ≡ Some r → is_directory r.kind ≡ false → {p : Parameters} → Owes t p [] []
     → IsTrue (list_all (λ (x : Content). not (x.parent == r.id)) t.contents)
 no_entries t r there other o =
     list_all_weaker (finds_directory_and_name t) (λ (x : Content). not (x.parent == r.id))
     (λ x finds. apart_by_kind t r there is_directory other x.parent (and_parts (has_inode is_directory t x.parent) (is_some (name_at t x.name_id)) finds).0)
     t.contents o.rows.entries
-
--- nothing is of what is no directory, where no file has blocks or slots
-pub IsBare-empty : (t : Tables) (p : Parameters) (r : Inode) → Owes t p [] [] → inode_at t r.id ≡ Some r → is_directory r.kind ≡ false → t.inode_blocks ≡ []
-    → t.slots ≡ [] → IsBare t r.id
-IsBare-empty t p r o there other blocks slots = record {
-  entries = no_entries t r there other o;
-  inode_blocks = subst (λ (rows : List InodeBlock). IsTrue (list_all (λ (x : InodeBlock). not (x.inode == r.id)) rows)) (sym blocks) refl;
-  slots = subst (λ (rows : List Slot). IsTrue (list_all (λ (x : Slot). not (x.inode == r.id)) rows)) (sym slots) refl;
-}
 
 -- ---- a row with one link less
 

@@ -17,7 +17,7 @@ use Rattle.row_lemmas.proofs.Tests.{list_all_weaker}
 use Rattle.row_lemmas.proofs.Keyed.Without.{row_at-without_same}
 use Rattle.row_lemmas.proofs.Tables.{tables_after-tables_after}
 use Rattle.tree_rows.specs.Spots.{form_at}
-use Rattle.ref_counts.specs.Links.{places_dropped, places_from}
+use Rattle.ref_counts.specs.Links.{places_dropped, places_from, places_of_gone}
 use Rattle.ref_counts.specs.Plans.{IsStep, next_inode_of, next_name_of, settings}
 use Rattle.ref_counts.specs.Removals.{attrs_dropped, attrs_of, removal, removals, target_dropped}
 use Rattle.block_steps.specs.Owed.{KeepsNames}
@@ -129,3 +129,8 @@ module _ (t : Tables) (v : IsValid t) (inode : ℕ) where
               let clash : false ≡ true = sym (ap is_some gone) ∙ ap (λ y. is_some (inode_at after y)) (sym (eqb-true x inode same)) ∙ living in
               absurd (cc clash)
           other false same = refl
+
+-- the places of a file that goes leave all names
+pub name_at-places_of_gone : (t : Tables) (kept : Bool) (inode id : ℕ) → name_at (tables_after (places_of_gone kept t inode) t) id ≡ name_at t id
+name_at-places_of_gone t true inode id = refl
+name_at-places_of_gone t false inode id = name_at-cleared t (places_from t inode 0) id

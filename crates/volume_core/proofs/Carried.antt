@@ -129,17 +129,17 @@ module _ {K : Type 0} (told : K → Option Told) (before after : RowCore K) (who
       (subst (λ t. IsFulfilled plan pass op t (told after.keeper) before.handles after.handles result) same is)
 
   pub inodes_so : IsTrue (inode_plans.is_planned op)
-      → IfTold (told before.keeper) (λ t. IsValid t → HasUniqueNames t → t.inode_blocks ≡ [] → t.slots ≡ [] → (w : Tree) → Represents t w → IsWellFormed w → HasHandles before.handles w → IsPlanOf t w pass op now plan)
+      → IfTold (told before.keeper) (λ t. IsValid t → HasUniqueNames t → t.slots ≡ [] → (w : Tree) → Represents t w → IsWellFormed w → HasHandles before.handles w → IsPlanOf t w pass op now plan)
       → IsOutcome told before after whole pass op now result
   inodes_so planned own =
       by_plan (either_plan (is_of_inodes (class_of op)) (is_of_entries (class_of op)) (is_built op) planned)
-      (told_fact (told before.keeper) s.now (λ t. IsValid t → HasUniqueNames t → t.inode_blocks ≡ [] → t.slots ≡ [] → (w : Tree) → Represents t w → IsWellFormed w → HasHandles before.handles w → IsPlanOf t w pass op now plan) s.tells own
-      s.served.valid s.served.unique s.served.inode_blocks s.served.slots whole s.represents s.well s.handles)
+      (told_fact (told before.keeper) s.now (λ t. IsValid t → HasUniqueNames t → t.slots ≡ [] → (w : Tree) → Represents t w → IsWellFormed w → HasHandles before.handles w → IsPlanOf t w pass op now plan) s.tells own
+      s.served.valid s.served.unique s.served.slots whole s.represents s.well s.handles)
 
   pub entries_so : IsTrue (dir_plans.is_planned op)
-      → IfTold (told before.keeper) (λ t. IsValid t → HasUniqueNames t → t.inode_blocks ≡ [] → t.slots ≡ [] → (w : Tree) → Represents t w → IsWellFormed w → HasHandles before.handles w → IsPlanOf t w pass op now plan)
+      → IfTold (told before.keeper) (λ t. IsValid t → HasUniqueNames t → t.slots ≡ [] → (w : Tree) → Represents t w → IsWellFormed w → HasHandles before.handles w → IsPlanOf t w pass op now plan)
       → IsOutcome told before after whole pass op now result
   entries_so planned own =
       by_plan (or_plan (is_of_inodes (class_of op)) (is_of_entries (class_of op)) (is_built op) planned)
-      (told_fact (told before.keeper) s.now (λ t. IsValid t → HasUniqueNames t → t.inode_blocks ≡ [] → t.slots ≡ [] → (w : Tree) → Represents t w → IsWellFormed w → HasHandles before.handles w → IsPlanOf t w pass op now plan) s.tells own
-      s.served.valid s.served.unique s.served.inode_blocks s.served.slots whole s.represents s.well s.handles)
+      (told_fact (told before.keeper) s.now (λ t. IsValid t → HasUniqueNames t → t.slots ≡ [] → (w : Tree) → Represents t w → IsWellFormed w → HasHandles before.handles w → IsPlanOf t w pass op now plan) s.tells own
+      s.served.valid s.served.unique s.served.slots whole s.represents s.well s.handles)

@@ -1,10 +1,19 @@
 -- A core that stands for a tree, from call to call.
 use Rattle.std.proofs.Common.{◌≡◌, ℕ, List, [], ◌∷◌, length, Bool, true, false, not, Option, None, Some, refl, sym, ap, ◌∙◌, subst, arith, eqb-true}
-use Rattle.std.specs.Prelude.{◌==◌, option_map, Result, Ok, Err, IsErrAnd}
+use Rattle.std.specs.Prelude.{IsTrue, ◌==◌, ◌&&◌, is_some, option_and_then, option_map, Result, Ok, Err, IsErrAnd}
+use Rattle.std.specs.List.{list_all}
+use Rattle.std.proofs.lemmas.Bool.{and_parts}
 use Rattle.s3_rows.specs.declared.change.Change.{Change}
 use Rattle.s3_rows.specs.declared.params.State.{State}
-use Rattle.s3_rows.specs.Rows.{Parameters}
-use Rattle.s3_rows.specs.Tables.{Tables}
+use Rattle.s3_rows.specs.Rows.{Inode, InodeBlock, Parameters}
+use Rattle.s3_rows.specs.Keyed.{row_at}
+use Rattle.s3_rows.specs.Tables.{Tables, by_spot}
+use Rattle.s3_rows.specs.Selections.{block_at, inode_at}
+use Rattle.s3_rows.specs.Validity.{IsValid, finds_of_inode_block, has_inode, is_regular}
+use Rattle.row_lemmas.proofs.Keyed.RowAt.{row_at_head}
+use Rattle.row_lemmas.proofs.Tables.{pair_cmp_total}
+use Rattle.row_lemmas.proofs.Tests.{is_some-option_map}
+use Rattle.tree_rows.specs.Spots.{form_at, form_of_row}
 use Rattle.s3_rows.specs.Batches.{tables_after}
 use Rattle.s3_rows.specs.Told.{Told, IfTold, with_batch}
 use Rattle.plain_tree.specs.Tree.{Tree}
@@ -59,11 +68,33 @@ state_kept (Some p) (Some q) state same is =
     let equal : settings q ≡ settings p = cc same in
     ap (λ (x : Parameters). Some x.state) equal ∙ is
 
+-- where no file had blocks, none has: a block that lies in one after would have lain in it before
+no_blocks : (t after : Tables) → t.inode_blocks ≡ [] → IsValid after
+    → ((inode blockno : ℕ) → IsTrue (is_some (inode_at after inode)) → form_at after inode blockno ≡ form_at t inode blockno)
+    → (rows : List InodeBlock) → after.inode_blocks ≡ rows → rows ≡ []
+no_blocks t after none v forms [] is = refl
+no_blocks t after none v forms (l ∷ ls) is =
+    let first : IsTrue (finds_of_inode_block after l) =
+    (and_parts (finds_of_inode_block after l) (list_all (finds_of_inode_block after) ls)
+    (subst (λ (rows : List InodeBlock). IsTrue (list_all (finds_of_inode_block after) rows)) is v.rows.inode_blocks)).0 in
+    let parts = and_parts (has_inode is_regular after l.inode) (is_some (block_at after l.block)) first in
+    let lies : form_at after l.inode l.blockno ≡ option_map form_of_row (block_at after l.block) =
+    ap (λ (found : Option InodeBlock). option_and_then (λ (r : InodeBlock). option_map form_of_row (block_at after r.block)) found)
+    (ap (λ (rows : List InodeBlock). row_at by_spot (l.inode, l.blockno) rows) is ∙ row_at_head by_spot pair_cmp_total l ls) in
+    let absent : form_at t l.inode l.blockno ≡ None = ap (λ (rows : List InodeBlock). form_at (record t { inode_blocks = rows }) l.inode l.blockno) none in
+    let clash : false ≡ true =
+    sym (ap is_some (sym lies ∙ forms l.inode l.blockno (living (inode_at after l.inode) parts.0) ∙ absent)) ∙ is_some-option_map form_of_row (block_at after l.block) ∙ parts.1 in
+    absurd (cc clash)
+  where
+    living : (found : Option Inode) → IsTrue (elim found [ Some r ↦ is_regular r.kind | None ↦ false ]) → IsTrue (is_some found)
+    living None some = absurd (cc some)
+    living (Some r) some = refl
+
 pub served_after : (t after : Tables) (next : Tree) (drawn : ℕ) → AreServed t → IsStep t after next drawn → AreServed after
 served_after t after next drawn s step = record {
   valid = step.valid;
   unique = step.unique s.unique;
-  inode_blocks = step.rest.inode_blocks ∙ s.inode_blocks;
+  inode_blocks = no_blocks t after s.inode_blocks step.valid step.rest.forms after.inode_blocks refl;
   slots = step.rest.slots ∙ s.slots;
 }
 

@@ -23,7 +23,7 @@ returns-then-is_itself-clause-plan g c =
     let m = c.args.moved.now in
     let itself : is_itself m ≡ true = sym c.is_itself.ensures ∙ c.if-is_itself.true in
     IfTold-all (g.K.Keeper.told c.args.keeper.now) _
-    (λ t v unique blocks slots whole pass parent new_parent name same well has is alike.
+    (λ t v unique slots whole pass parent new_parent name same well has is alike.
     itself_planned t whole pass parent new_parent now name new_name v unique same well m is itself
     (c.renames_are_steps.ensures.itself t whole pass parent new_parent now name new_name v same)
     c.with_reply.result (c.with_reply.ensures.plan ∙ ap (λ (b : List Change). entry_plan (Some b) replies.Done) c.new.ensures))
@@ -31,7 +31,7 @@ returns-then-is_itself-clause-plan g c =
 pub returns-in_default-clause-plan : goal.returns-in_default-clause-plan
 returns-in_default-clause-plan g c =
     IfTold-weaker (g.K.Keeper.told c.args.keeper.now) _ _
-    (λ t own v unique blocks slots whole pass parent new_parent name same well has is alike.
+    (λ t own v unique slots whole pass parent new_parent name same well has is alike.
     absurd (c.in_default.not-Some _ (own v whole same well (new_folder t whole v same parent name new_parent c.args.new_name.now c.args.moved.now is))))
     c.in_ok-below.ensures.below
 
@@ -41,7 +41,7 @@ returns-then-below-clause-plan g c =
     let m = c.args.moved.now in
     let moves : is_itself m ≡ false = sym c.is_itself.ensures ∙ c.if-is_itself.false in
     IfTold-weaker (g.K.Keeper.told c.args.keeper.now) _ _
-    (λ t own v unique blocks slots whole pass parent new_parent name same well has is alike.
+    (λ t own v unique slots whole pass parent new_parent name same well has is alike.
     let is_below : c.in-Some.below ≡ (is_directory m.old.child.kind && is_at_or_below whole m.old.child.id m.directory.id) =
     cc (sym c.in-Some.is ∙ own v whole same well (new_folder t whole v same parent name new_parent new_name m is)) in
     refused_below t whole pass parent new_parent c.args.now name new_name v unique same well m is moves (sym is_below ∙ c.if-below.true))
@@ -54,7 +54,7 @@ returns-in-Err-clause-plan g c =
     let m = c.args.moved.now in
     let moves : is_itself m ≡ false = sym c.is_itself.ensures ∙ c.if-is_itself.false in
     IfTold-weaker2 told _ _ _
-    (λ t own over v unique blocks slots whole pass parent new_parent name same well has is alike.
+    (λ t own over v unique slots whole pass parent new_parent name same well has is alike.
     let is_below : c.in-Some.below ≡ (is_directory m.old.child.kind && is_at_or_below whole m.old.child.id m.directory.id) =
     cc (sym c.in-Some.is ∙ own v whole same well (new_folder t whole v same parent name new_parent new_name m is)) in
     refused_over t whole pass parent new_parent c.args.now name new_name v unique same well m is moves (sym is_below ∙ c.if-below.false) c.in-Err.errno
@@ -73,7 +73,7 @@ returns-clause-plan g c =
     let r = m.old.child in
     let moves : is_itself m ≡ false = sym c.is_itself.ensures ∙ c.if-is_itself.false in
     IfTold-weaker3 told _ _ _ _
-    (λ t own over made v unique blocks slots whole pass parent new_parent name same well has is alike.
+    (λ t own over made v unique slots whole pass parent new_parent name same well has is alike.
     let is_below : c.in-Some.below ≡ (is_directory r.kind && is_at_or_below whole r.id d2.id) =
     cc (sym c.in-Some.is ∙ own v whole same well (new_folder t whole v same parent name new_parent new_name m is)) in
     moved_planned t whole pass parent new_parent now name new_name v unique same well m is moves (sym is_below ∙ c.if-below.false)

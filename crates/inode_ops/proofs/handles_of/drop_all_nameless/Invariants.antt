@@ -13,5 +13,6 @@ invariant-loop-inode g l = record {
   later : g.K.Keeper.faults l.fn.keeper ≤ g.K.Keeper.faults l.keeper;
   partly :
       IfTold (g.K.Keeper.told l.fn.keeper) (λ t. IsOrdered t
-      → l.batch ++ removals t (nameless t (drop l.inode-index l.inodes)) (tables_after l.batch t) ≡ removals t (nameless t l.inodes) t);
+      → l.batch ++ removals t (nameless t (drop l.inode-index l.inodes)) (tables_after l.batch t)
+      ≡ l.fn.batch ++ removals t (nameless t l.inodes) (tables_after l.fn.batch t));
 }
