@@ -1,1 +1,2 @@
+pub mod KeptFiles
 pub mod SameForms

@@ -1,6 +1,8 @@
 //! What steps of rows make of the bytes of files.
 #![tactic(auto)]
 
+mod names;
 mod prepared;
 
+pub use names::operations_on_names_keep_bytes;
 pub use prepared::prepared_tables_keep_bytes;
