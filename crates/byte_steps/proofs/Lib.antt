@@ -1,2 +1,4 @@
+pub mod ChangedFiles
+pub mod ChangedNumbers
 pub mod KeptFiles
 pub mod SameForms

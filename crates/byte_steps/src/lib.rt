@@ -1,8 +1,10 @@
 //! What steps of rows make of the bytes of files.
 #![tactic(auto)]
 
+mod files;
 mod names;
 mod prepared;
 
+pub use files::changed_files_have_their_bytes;
 pub use names::operations_on_names_keep_bytes;
 pub use prepared::prepared_tables_keep_bytes;
