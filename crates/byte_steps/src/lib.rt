@@ -4,7 +4,9 @@
 mod files;
 mod names;
 mod prepared;
+mod stats;
 
 pub use files::changed_files_have_their_bytes;
 pub use names::operations_on_names_keep_bytes;
 pub use prepared::prepared_tables_keep_bytes;
+pub use stats::counts_of_exact_tables;
