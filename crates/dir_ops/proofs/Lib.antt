@@ -4,6 +4,7 @@ pub mod DirectoryRows
 pub mod Entering
 pub mod EntryRows
 pub mod FirstFailures
+pub mod GoneEntries
 pub mod Linked
 pub mod Moving
 pub mod NewDirectory

@@ -1,5 +1,5 @@
 -- The plan of an entry that moves.
-use Rattle.std.proofs.Common.{◌≡◌, ℕ, ◌-◌, List, [], ◌∷◌, length, Bool, true, false, cond, drop, Option, None, Some, Ok, refl, sym, ap, ◌∙◌, subst, eqb-true}
+use Rattle.std.proofs.Common.{◌≡◌, ℕ, ◌-◌, List, [], ◌∷◌, ◌++◌, length, Bool, true, false, cond, drop, Option, None, Some, Ok, refl, sym, ap, ◌∙◌, subst, eqb-true}
 use Rattle.std.specs.Prelude.{◌==◌, ◌&&◌, ◌||◌, nat_lt, nat_eq, is_some, option_map, if◌then◌else◌}
 use Rattle.std.specs.Cmp.{nat_cmp_total}
 use Rattle.std.specs.Cmp.Lexicographic.{other_text, pointwise, same_text}
@@ -33,14 +33,16 @@ use Rattle.row_lemmas.proofs.Keyed.RowAt.{row_at_from_find}
 use Rattle.tree_rows.specs.Shapes.{Represents}
 use Rattle.tree_rows.proofs.Whole.{number_of}
 use Rattle.ref_counts.specs.Handles.{OpenHandles, HasHandles, is_held}
+use Rattle.ref_counts.specs.Links.{places_of_gone}
+use Rattle.ref_counts.specs.Removals.{removal}
 use Rattle.ref_counts.specs.Names.{Raised, StaysUnique, raised, raised_of}
 use Rattle.ref_counts.specs.Plans.{IsNameWorn, IsStep, IsPlanOf}
 use Rattle.ref_counts.specs.declared.plan.Plan.{Plan}
 use Rattle.ref_counts.specs.declared.plan.Plan.TheVariants as plans
 use Rattle.ref_counts.proofs.Named.{delete_found, put_found}
 use Rattle.ref_counts.proofs.Overlay.{kept}
-use Rattle.ref_counts.proofs.NonEmpty.{some_change}
-use Rattle.row_steps.specs.RowChanges.{dropping, moving, other_name, replacing, same_name, touched_row}
+use Rattle.ref_counts.proofs.NonEmpty.{some_between, some_change}
+use Rattle.row_steps.specs.RowChanges.{counted_row, dropping, moving, name_of_replaced, other_name, replacing, same_name, touched_row}
 use Rattle.row_steps.proofs.Leaving.{HasUniqueNames-dropped, IsLeaving, name_is, named}
 use Rattle.dir_ops.specs.declared.moves.Move.{Move}
 use Rattle.dir_ops.specs.Moves.{IsMove, both_checks, is_itself, moved_changes, over_checks}
@@ -280,8 +282,14 @@ module _ (t : Tables) (whole : Tree) (pass parent new_parent now : ℕ) (name ne
                 let held : is_open whole c2.inode ≡ is_held h r2.id = λ i. list_any (λ (e : ℕ × Handle). e.1.inode == number i) (has.1 i) in
                 let other : (c2.inode == m.old.entry.inode) ≡ false =
                 ap (λ (o : Option (Content × Inode)). elim o [ Some e ↦ e.0.inode == m.old.entry.inode | None ↦ false ]) there ∙ moves in
-                let batch : List Change = replacing (nat_lt 1 r2.refcount || is_held h r2.id) t m.old.directory m.directory m.old.child r2 m.old.entry c2 n now in
-                settled passes (ap (λ (o : Option (Content × Inode)). is_some o || pointwise nat_eq name new_name) (sym there)) batch (changes_rows (drop 1 batch))
+                let kept : Bool = nat_lt 1 r2.refcount || is_held h r2.id in
+                let places : List Change = places_of_gone kept t r2.id in
+                let delete : Change = changes.DeleteContent m.old.entry.parent m.old.entry.name_id in
+                let more : List Change = drop 1 (moving m.old.directory m.directory m.old.entry (name_of_replaced n c2) m.old.child now) in
+                let last : List Change = cond kept (changes.PutInode (counted_row (r2.refcount - 1) now r2) ∷ [])
+                (removal t r2.id (tables_after (places ++ moving m.old.directory m.directory m.old.entry (name_of_replaced n c2) m.old.child now) t)) in
+                let batch : List Change = replacing kept t m.old.directory m.directory m.old.child r2 m.old.entry c2 n now in
+                settled passes (ap (λ (o : Option (Content × Inode)). is_some o || pointwise nat_eq name new_name) (sym there)) batch (some_between places delete more last ∙ sym moves)
                 (steps.replaced n own.0 c2 r2 (is_held h r2.id) leaves.bytes leaves.entry leaves.child own.1 own.2 row held passes other)
 
             by_form : (o : Option (Content × Inode)) → o ≡ m.replaced → (alike : Bool) → alike ≡ pointwise nat_eq name new_name

@@ -6,7 +6,7 @@ use Rattle.s3_base.specs.declared.errors.Errno.{Errno}
 use Rattle.plain_tree.specs.Below.{is_at_or_below}
 use Rattle.plain_tree.specs.Checks.{first_failure}
 use Rattle.s3_rows.specs.declared.change.Change.{Change}
-use Rattle.s3_rows.specs.Rows.{InodeBlock, Slot}
+use Rattle.s3_rows.specs.Rows.{Slot}
 use Rattle.s3_rows.specs.Validity.{is_directory}
 use Rattle.op_checks.specs.Checks.{Checks}
 use Rattle.ref_counts.proofs.Told.{IfTold-all, IfTold-weaker, IfTold-weaker2, IfTold-weaker3, IfTold-same}
@@ -86,7 +86,6 @@ returns-clause-plan g c =
       replaced = λ n n2 c2 r2 held bytes entry row new_bytes new_entry new_row held_is passes other.
           c.renames_are_steps.ensures.replaced t whole v.params d d2 r r2 e c2 n n2 pass parent new_parent now name new_name held v well same v.is_made is.0 is.2 bytes entry row
           new_bytes new_entry new_row
-          (subst (λ (rows : List InodeBlock). IsTrue (list_all (λ (x : InodeBlock). not (x.inode == r2.id)) rows)) (sym blocks) refl)
           (subst (λ (rows : List Slot). IsTrue (list_all (λ (x : Slot). not (x.inode == r2.id)) rows)) (sym slots) refl) held_is passes other;
     })
     c.args.handles.now has c.args.same alike c.in_ok-batch.batch (made v.ordered) c.with_reply-2.result c.with_reply-2.ensures.plan)
