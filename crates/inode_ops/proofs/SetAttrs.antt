@@ -1,6 +1,6 @@
 -- Plans of attributes that are set or removed.
-use Rattle.std.proofs.Common.{◌≡◌, ℕ, List, [], ◌∷◌, ◌++◌, length, Bool, true, false, cond, Option, None, Some, refl, sym, ap, ◌∙◌, subst, arith, eqb-true}
-use Rattle.std.specs.Prelude.{◌==◌, is_some, option_map}
+use Rattle.std.proofs.Common.{◌≡◌, ℕ, List, [], ◌∷◌, Bool, cond, Option, None, Some, refl, sym, ap, ◌∙◌, subst}
+use Rattle.std.specs.Prelude.{is_some, option_map}
 use Rattle.op_frames.specs.declared.operation.Op.{Op}
 use Rattle.op_frames.specs.declared.operation.Op.TheVariants as ops
 use Rattle.op_frames.specs.declared.operation.SetFlag.{SetFlag}
@@ -11,7 +11,6 @@ use Rattle.plain_tree.specs.Pages.{attribute_at}
 use Rattle.plain_tree.specs.Checks.{first_failure, attribute_check, attribute_name_check, flag_check, value_check}
 use Rattle.plain_tree.specs.Classes.{name_used, names_drawn}
 use Rattle.plain_tree.specs.Operations.{checks, effect}
-use Rattle.s3_rows.specs.declared.change.Change.{Change}
 use Rattle.s3_rows.specs.declared.change.Change.TheVariants as changes
 use Rattle.s3_rows.specs.Rows.{Inode, Name, Attr}
 use Rattle.s3_rows.specs.Tables.{Tables}
