@@ -1,3 +1,4 @@
+pub mod BlockChanges
 pub mod DebtsBlocks
 pub mod DebtsLists
 pub mod DebtsMade
@@ -7,5 +8,6 @@ pub mod DroppedPlaces
 pub mod FormsOfBlocks
 pub mod KeptNames
 pub mod KeptRows
+pub mod OtherLengths
 pub mod RelinkedForms
 pub mod RelinkedPlaces

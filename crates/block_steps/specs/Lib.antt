@@ -1,2 +1,3 @@
+pub mod BlockChanges
 pub mod Owed
 pub mod Places
