@@ -1,4 +1,3 @@
-pub mod BlockChanges
 pub mod DebtsBlocks
 pub mod DebtsLists
 pub mod DebtsMade
@@ -8,6 +7,5 @@ pub mod DroppedPlaces
 pub mod FormsOfBlocks
 pub mod KeptNames
 pub mod KeptRows
-pub mod OtherLengths
 pub mod RelinkedForms
 pub mod RelinkedPlaces

@@ -1,3 +1,2 @@
-pub mod BlockChanges
 pub mod Owed
 pub mod Places

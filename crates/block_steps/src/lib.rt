@@ -3,7 +3,6 @@
 
 mod drops;
 mod forms;
-mod lengths;
 mod owed;
 mod places;
 mod rows;
@@ -11,10 +10,6 @@ mod rows;
 pub use drops::dropped_places_leave_valid_tables;
 pub use forms::{
     counted_blocks_leave_forms, made_blocks_have_their_form, relinked_places_have_their_form,
-};
-pub use lengths::{
-    changes_of_places_are_of_blocks, files_take_other_lengths, lengths_leave_forms,
-    orders_do_not_matter,
 };
 pub use owed::{
     counted_blocks_owe_a_place, made_blocks_owe_a_place, order_of_debts_is_free,

@@ -1,8 +1,10 @@
+pub mod BlockChanges
 pub mod ChangedFiles
 pub mod ChangedNumbers
 pub mod CountedBlocks
 pub mod CountedObjects
 pub mod DistinctRows
 pub mod KeptFiles
+pub mod OtherLengths
 pub mod PlacedBlocks
 pub mod SameForms

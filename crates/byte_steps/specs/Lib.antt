@@ -1,3 +1,4 @@
+pub mod BlockChanges
 pub mod Changed
 pub mod Counts
 pub mod Kept

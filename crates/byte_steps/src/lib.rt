@@ -2,11 +2,16 @@
 #![tactic(auto)]
 
 mod files;
+mod lengths;
 mod names;
 mod prepared;
 mod stats;
 
 pub use files::changed_files_have_their_bytes;
+pub use lengths::{
+    changes_of_places_are_of_blocks, files_take_other_lengths, lengths_leave_forms,
+    orders_do_not_matter,
+};
 pub use names::operations_on_names_keep_bytes;
 pub use prepared::prepared_tables_keep_bytes;
 pub use stats::counts_of_exact_tables;

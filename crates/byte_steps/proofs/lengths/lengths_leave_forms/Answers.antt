@@ -1,7 +1,7 @@
 use Rattle.std.proofs.Common.{ap}
 use Rattle.s3_rows.specs.Keyed.{put}
 use Rattle.s3_rows.specs.Tables.{by_inode}
-use Rattle.block_steps.proofs.lengths.lengths_leave_forms.Goals as goal
+use Rattle.byte_steps.proofs.lengths.lengths_leave_forms.Goals as goal
 
 pub returns-clause-kept : goal.returns-clause-kept
 returns-clause-kept c = λ t after new k. record {

@@ -11,7 +11,7 @@ use Rattle.s3_rows.specs.Tables.{Tables}
 use Rattle.s3_rows.specs.Batches.{after_change, tables_after}
 use Rattle.s3_rows.specs.Selections.{block_at, inode_block_at, object_at}
 use Rattle.ref_counts.specs.Links.{counted_block, link_replaced, link_set, lowered_block, lowered_object, places_dropped, relinked}
-use Rattle.block_steps.specs.BlockChanges.{is_of_blocks}
+use Rattle.byte_steps.specs.BlockChanges.{is_of_blocks}
 use Rattle.block_steps.specs.Places.{Places, places_relinked}
 
 -- ---- is_of_blocks

@@ -4,8 +4,8 @@ use Rattle.s3_rows.specs.declared.change.Change.TheVariants as changes
 use Rattle.s3_rows.specs.Batches.{after_change, tables_after}
 use Rattle.ref_counts.specs.Links.{places_dropped}
 use Rattle.block_steps.specs.Places.{places_relinked}
-use Rattle.block_steps.proofs.BlockChanges.{is_of_blocks-places_dropped, is_of_blocks-places_relinked, places_dropped-put_inode, places_relinked-put_inode, relinked-put_inode, tables_after-put_inode}
-use Rattle.block_steps.proofs.lengths.orders_do_not_matter.Goals as goal
+use Rattle.byte_steps.proofs.BlockChanges.{is_of_blocks-places_dropped, is_of_blocks-places_relinked, places_dropped-put_inode, places_relinked-put_inode, relinked-put_inode, tables_after-put_inode}
+use Rattle.byte_steps.proofs.lengths.orders_do_not_matter.Goals as goal
 
 pub returns : goal.returns
 returns c = record {

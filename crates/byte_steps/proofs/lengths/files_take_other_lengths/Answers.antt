@@ -2,8 +2,8 @@ use Rattle.std.proofs.Common.{[]}
 use Rattle.s3_rows.specs.declared.change.Change.TheVariants as changes
 use Rattle.s3_rows.specs.Batches.{after_change}
 use Rattle.block_steps.proofs.DebtsTables.{IsValid-OwesPlaces, OwesPlaces-IsValid}
-use Rattle.block_steps.proofs.OtherLengths.{OwesPlaces-length, OwesPlaces-length_cut, OwesPlaces-length_longer, cut_from, inode_at-cut_from}
-use Rattle.block_steps.proofs.lengths.files_take_other_lengths.Goals as goal
+use Rattle.byte_steps.proofs.OtherLengths.{OwesPlaces-length, OwesPlaces-length_cut, OwesPlaces-length_longer, cut_from, inode_at-cut_from}
+use Rattle.byte_steps.proofs.lengths.files_take_other_lengths.Goals as goal
 
 pub returns-clause-valid : goal.returns-clause-valid
 returns-clause-valid c =

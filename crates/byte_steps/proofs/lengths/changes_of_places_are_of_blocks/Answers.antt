@@ -1,6 +1,6 @@
 use Rattle.std.proofs.Common.{refl}
-use Rattle.block_steps.proofs.BlockChanges.{is_of_blocks-counted, is_of_blocks-places_dropped, is_of_blocks-places_relinked, is_of_blocks-relinked, list_all_is_of_blocks-append}
-use Rattle.block_steps.proofs.lengths.changes_of_places_are_of_blocks.Goals as goal
+use Rattle.byte_steps.proofs.BlockChanges.{is_of_blocks-counted, is_of_blocks-places_dropped, is_of_blocks-places_relinked, is_of_blocks-relinked, list_all_is_of_blocks-append}
+use Rattle.byte_steps.proofs.lengths.changes_of_places_are_of_blocks.Goals as goal
 
 pub returns : goal.returns
 returns c = record {

@@ -12,7 +12,7 @@ ghost use Rattle.s3_rows.specs.Selections.{inode_at};
 ghost use Rattle.s3_rows.specs.Validity.{IsValid};
 ghost use Rattle.tree_rows.specs.Spots.{form_at};
 ghost use Rattle.ref_counts.specs.Links.{counted_block, places_dropped, places_from, relinked};
-ghost use Rattle.block_steps.specs.BlockChanges.{is_of_blocks};
+ghost use Rattle.byte_steps.specs.BlockChanges.{is_of_blocks};
 ghost use Rattle.block_steps.specs.Owed.{KeepsNames, OwesPlaces};
 ghost use Rattle.block_steps.specs.Places.{Places, block_made, places_relinked};
 
