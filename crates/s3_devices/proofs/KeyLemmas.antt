@@ -21,13 +21,13 @@ digits_value-zeros : (k : ℕ) (ds : List ℕ) → digits_value 10 (replicate k 
 digits_value-zeros zero ds = refl
 digits_value-zeros (suc k) ds = digits_value-zeros k ds
 
-digits_value-twenty_digits : (n : ℕ) → n < 2 ^ 64 → digits_value 10 (twenty_digits n) ≡ n
+pub digits_value-twenty_digits : (n : ℕ) → n < 2 ^ 64 → digits_value 10 (twenty_digits n) ≡ n
 digits_value-twenty_digits n small = digits_value-zeros (20 - length (decimal n)) (decimal n) ∙ (decimal_is_IsNumeral n small).1
 
 length-decimal : (n : ℕ) → n < 2 ^ 64 → length (decimal n) ≤ 20
 length-decimal n small = length-decimal-le 20 n (omega arith) (omega arith) small
 
-length-twenty_digits : (n : ℕ) → n < 2 ^ 64 → length (twenty_digits n) ≡ 20
+pub length-twenty_digits : (n : ℕ) → n < 2 ^ 64 → length (twenty_digits n) ≡ 20
 length-twenty_digits n small =
     omega (arith, length-decimal n small, length-append (replicate (20 - length (decimal n)) 48) (decimal n), length-replicate {A = ℕ} (20 - length (decimal n)) 48)
 

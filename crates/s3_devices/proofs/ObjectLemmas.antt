@@ -123,7 +123,7 @@ pub held_at-without_object_same : (key : List ℕ) (o : Objects) → held_at (wi
 held_at-without_object_same key o =
     lookup-filter-keys (is_at (key_cmp key)) (λ k. not (is_at (key_cmp key) k)) false (λ k at. ap not at) o
 
-keys_of-filter : {K X : Type 0} (p : K → Bool) (es : List (K × X)) → keys_of (filter (λ e. p e.0) es) ≡ filter p (keys_of es)
+pub keys_of-filter : {K X : Type 0} (p : K → Bool) (es : List (K × X)) → keys_of (filter (λ e. p e.0) es) ≡ filter p (keys_of es)
 keys_of-filter p [] = refl
 keys_of-filter {K} {X} p (e ∷ es) = by_case (p e.0) (keys_of-filter p es)
   where
@@ -159,7 +159,7 @@ sorted_take {K} cmp (suc n) (k ∷ ks) sorted = (all_take n ks sorted.0, sorted_
 all_past : (after : List ℕ) (o : Objects) → All (λ (e : List ℕ × List ℕ). key_cmp after e.0 ≡ Less) (filter (λ e. is_lt (key_cmp after e.0)) o)
 all_past after o = λ k d low. less_from_is_lt _ (filter_passes (λ e. is_lt (key_cmp after e.0)) o k d low)
 
-keys_listed : (n : ℕ) (o : Objects) → map (λ i. i.key) (map item_of (take n o)) ≡ take n (keys_of o)
+pub keys_listed : (n : ℕ) (o : Objects) → map (λ i. i.key) (map item_of (take n o)) ≡ take n (keys_of o)
 keys_listed zero o = refl
 keys_listed (suc n) [] = refl
 keys_listed (suc n) (e ∷ es) = ap (λ ks. e.0 ∷ ks) (keys_listed n es)
