@@ -76,8 +76,14 @@ fn read_last<K: Keeper>(alloc: Global, keeper: &mut K) -> Result<LastTables, Kee
     })
 }
 
-/// The tables with these parameters.
-fn read_all<K: Keeper>(alloc: Global, keeper: &mut K, params: Params) -> Result<Tables, KeeperFault>
+/// The rows of a keeper, beside these parameters.
+pub fn read_rows_beside<K: Keeper>(
+    alloc: Global,
+    keeper: &mut K,
+    params: Params,
+) -> Result<Tables, KeeperFault>
+    ensures rows { (s : Told) → K.told keeper.old ≡ Some s → IsOrdered s.tables
+        → IfOk result (λ t. t ≡ record s.tables { params = Some params }) }
     ensures read { (s : Told) → K.told keeper.old ≡ Some s → IsOrdered s.tables → s.tables.params ≡ Some params
         → IfOk result (λ t. t ≡ s.tables) }
     ensures same { K.told keeper.new ≡ K.told keeper.old }
@@ -109,5 +115,5 @@ pub fn read_tables<K: Keeper>(alloc: Global, keeper: &mut K) -> Result<Option<Ta
     let Some(params) = keeper.params()? else {
         return Ok(None);
     };
-    Ok(Some(read_all(alloc, keeper, params)?))
+    Ok(Some(read_rows_beside(alloc, keeper, params)?))
 }

@@ -14,7 +14,7 @@ mod table;
 mod writing;
 
 pub use fault::DumpFault;
-pub use keeper_tables::read_tables;
+pub use keeper_tables::{read_rows_beside, read_tables};
 pub use laws::{dumps_read_back, made_dumps_are_short};
 pub use reading::read_dump;
 pub use writing::dump;
