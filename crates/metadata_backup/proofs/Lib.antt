@@ -1,0 +1,4 @@
+mod Digits
+mod GenerationLaws
+mod KeyNumbers
+mod SurveyLaws

@@ -1,0 +1,3 @@
+pub mod Generations
+pub mod Numbers
+pub mod Survey

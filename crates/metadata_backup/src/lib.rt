@@ -1,0 +1,12 @@
+//! Generations of the metadata in the object store: stored, listed, taken away.
+#![tactic(auto)]
+
+mod generations;
+mod laws;
+mod numbers;
+mod stored;
+mod survey;
+
+pub use generations::{newest, rotate};
+pub use laws::{keys_read_by_hand, numbers_have_one_key, rotations_take_old_generations};
+pub use stored::{Dump, DumpReceipt, store_generation, take_dump};
