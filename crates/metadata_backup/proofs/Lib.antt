@@ -1,4 +1,6 @@
 mod Digits
 mod GenerationLaws
 mod KeyNumbers
+mod ReplacingLaws
+mod RestoreLaws
 mod SurveyLaws

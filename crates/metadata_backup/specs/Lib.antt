@@ -1,3 +1,5 @@
 pub mod Generations
 pub mod Numbers
+pub mod Replacing
+pub mod Restores
 pub mod Survey
