@@ -1,6 +1,6 @@
 -- What the batch makes of tables that puts others in their place.
 use Rattle.std.proofs.Common.{◌≡◌, Bool, true, cond, IsTrue, List, [], ◌∷◌, ◌++◌, map, Option, Some, refl, sym, ap, ◌∙◌, subst, append_assoc, append-nil}
-use Rattle.std.specs.Prelude.{not}
+use Rattle.std.specs.Prelude.{not, reverse}
 use Rattle.std.specs.List.{list_all}
 use Rattle.std.specs.Cmp.{IsTotalOrder, nat_cmp_total}
 use Rattle.std.specs.declared.cmp.Ordering.{Ordering}
@@ -8,15 +8,15 @@ use Rattle.std.specs.declared.cmp.Ordering.TheVariants.{Less, Greater}
 use Rattle.std.specs.Ordering.{is_eq, ordering_reverse}
 use Rattle.std.proofs.lemmas.Bool.{and_parts, and_from}
 use Rattle.std.proofs.lemmas.Cmp.{tied_itself}
+use Rattle.std.proofs.lemmas.List.{map-append, reverse-append}
 use Rattle.s3_rows.specs.declared.change.Change.{Change}
 use Rattle.s3_rows.specs.declared.change.Change.TheVariants as changes
 use Rattle.s3_rows.specs.Rows.{Parameters}
-use Rattle.s3_rows.specs.Keyed.{Order, put, without, rises, is_past, has_key}
+use Rattle.s3_rows.specs.Keyed.{Order, put, without, rises, is_past}
 use Rattle.s3_rows.specs.Tables.{Tables, IsOrdered, by_inode, by_name, by_entry, by_spot, by_block, by_object, by_target, by_attr, by_slot}
 use Rattle.s3_rows.specs.Batches.{after_change, tables_after}
-use Rattle.row_lemmas.proofs.Filters.{filter_all}
 use Rattle.row_lemmas.proofs.Keyed.Put.{put_greater}
-use Rattle.row_lemmas.proofs.Tests.{list_all_weaker, less_from_is_lt}
+use Rattle.row_lemmas.proofs.Tests.{less_from_is_lt}
 use Rattle.row_lemmas.proofs.Tables.{pair_cmp_total, tables_after-tables_after}
 use Rattle.metadata_backup.specs.Replacing.{RowChanges, deletes, puts, first_deletes, last_deletes, first_puts, last_puts, replacement, inode_changes, name_changes, content_changes, inode_block_changes, block_changes, object_changes, target_changes, attr_changes, slot_changes}
 
@@ -36,13 +36,16 @@ module _ {K R : Type 0} (o : Order K R) (total : IsTotalOrder o.compare) where
       let above : o.compare (o.key r) (o.key x) ≡ Greater = total.antisymm (o.key r) (o.key x) ∙ ap ordering_reverse below in
       put_greater o r x xs above ∙ ap (λ (ys : List R). x ∷ ys) (put-last xs r parts.1)
 
-  without-first : (r : R) (rs : List R) → IsTrue (rises o (r ∷ rs)) → without o (o.key r) (r ∷ rs) ≡ rs
-  without-first r rs up =
-      let parts = and_parts (list_all (is_past o (o.key r)) rs) (rises o rs) up in
-      ap (λ (c : Ordering). cond (not (is_eq c)) (r ∷ without o (o.key r) rs) (without o (o.key r) rs)) (tied_itself total (o.key r))
-      ∙ filter_all (λ x. not (has_key o (o.key r) x)) rs
-      (list_all_weaker (is_past o (o.key r)) (λ x. not (has_key o (o.key r) x))
-      (λ x past. ap (λ (c : Ordering). not (is_eq c)) (less_from_is_lt (o.compare (o.key r) (o.key x)) past)) rs parts.0)
+  -- and a delete takes it off the end
+  without-last : (done : List R) (r : R) → IsTrue (rises o (done ++ r ∷ [])) → without o (o.key r) (done ++ r ∷ []) ≡ done
+  without-last [] r up =
+      ap (λ (c : Ordering). cond (not (is_eq c)) (r ∷ []) []) (tied_itself total (o.key r))
+  without-last (x ∷ xs) r up =
+      let parts = and_parts (list_all (is_past o (o.key x)) (xs ++ r ∷ [])) (rises o (xs ++ r ∷ [])) up in
+      let below : o.compare (o.key x) (o.key r) ≡ Less = less_from_is_lt (o.compare (o.key x) (o.key r)) (list_all-last (is_past o (o.key x)) xs r parts.0) in
+      let above : o.compare (o.key r) (o.key x) ≡ Greater = total.antisymm (o.key r) (o.key x) ∙ ap ordering_reverse below in
+      ap (λ (c : Ordering). cond (not (is_eq c)) (x ∷ without o (o.key r) (xs ++ r ∷ [])) (without o (o.key r) (xs ++ r ∷ []))) above
+      ∙ ap (λ (ys : List R). x ∷ ys) (without-last xs r parts.1)
 
   list_all-front : (p : R → Bool) (xs : List R) (r : R) (rs : List R) → IsTrue (list_all p (xs ++ r ∷ rs)) → IsTrue (list_all p (xs ++ r ∷ []))
   list_all-front p [] r rs all = and_from (p r) true (and_parts (p r) (list_all p rs) all).0 refl
@@ -73,19 +76,28 @@ module _ {K R : Type 0} (o : Order K R) (total : IsTotalOrder o.compare) where
         ap (tables_after (map c.put_of rs)) one ∙ puts_from (done ++ r ∷ []) rs t more
         ∙ ap (λ (xs : List R). c.with_rows xs t) (append_assoc done (r ∷ []) rs)
 
-    deletes_from : (rows : List R) (t : Tables) → IsTrue (rises o rows) → tables_after (map c.delete_of rows) (c.with_rows rows t) ≡ c.with_rows [] t
-    deletes_from [] t up = refl
-    deletes_from (r ∷ rs) t up =
-        let one : after_change (c.delete_of r) (c.with_rows (r ∷ rs) t) ≡ c.with_rows rs t =
-        deletes_row r (c.with_rows (r ∷ rs) t) ∙ ap (λ (xs : List R). c.with_rows (without o (o.key r) xs) (c.with_rows (r ∷ rs) t)) (got (r ∷ rs) t)
-        ∙ again (without o (o.key r) (r ∷ rs)) (r ∷ rs) t ∙ ap (λ (xs : List R). c.with_rows xs t) (without-first r rs up) in
-        ap (tables_after (map c.delete_of rs)) one ∙ deletes_from rs t (and_parts (list_all (is_past o (o.key r)) rs) (rises o rs) up).1
+    deletes_from : (done rows : List R) (t : Tables) → IsTrue (rises o (done ++ rows))
+        → tables_after (map c.delete_of (reverse rows)) (c.with_rows (done ++ rows) t) ≡ c.with_rows done t
+    deletes_from done [] t up = ap (λ (xs : List R). c.with_rows xs t) (append-nil done)
+    deletes_from done (r ∷ rs) t up =
+        let more : IsTrue (rises o ((done ++ r ∷ []) ++ rs)) = subst (λ (xs : List R). IsTrue (rises o xs)) (sym (append_assoc done (r ∷ []) rs)) up in
+        let others : tables_after (map c.delete_of (reverse rs)) (c.with_rows (done ++ r ∷ rs) t) ≡ c.with_rows (done ++ r ∷ []) t =
+        ap (λ (xs : List R). tables_after (map c.delete_of (reverse rs)) (c.with_rows xs t)) (sym (append_assoc done (r ∷ []) rs))
+        ∙ deletes_from (done ++ r ∷ []) rs t more in
+        let one : after_change (c.delete_of r) (c.with_rows (done ++ r ∷ []) t) ≡ c.with_rows done t =
+        deletes_row r (c.with_rows (done ++ r ∷ []) t)
+        ∙ ap (λ (xs : List R). c.with_rows (without o (o.key r) xs) (c.with_rows (done ++ r ∷ []) t)) (got (done ++ r ∷ []) t)
+        ∙ again (without o (o.key r) (done ++ r ∷ [])) (done ++ r ∷ []) t
+        ∙ ap (λ (xs : List R). c.with_rows xs t) (without-last done r (rises_front done r rs up)) in
+        ap (λ (cs : List Change). tables_after cs (c.with_rows (done ++ r ∷ rs) t)) (ap (map c.delete_of) (reverse-append (r ∷ []) rs) ∙ map-append c.delete_of (reverse rs) (r ∷ []))
+        ∙ sym (tables_after-tables_after (map c.delete_of (reverse rs)) (c.delete_of r ∷ []) (c.with_rows (done ++ r ∷ rs) t))
+        ∙ ap (tables_after (c.delete_of r ∷ [])) others ∙ one
 
     -- all rows of the table go
     tables_after-deletes : (t : Tables) (rest : List Change) → IsTrue (rises o (c.rows t)) → tables_after (deletes c t ++ rest) t ≡ tables_after rest (c.with_rows [] t)
     tables_after-deletes t rest up =
         sym (tables_after-tables_after (deletes c t) rest t)
-        ∙ ap (tables_after rest) (ap (tables_after (deletes c t)) (sym (same t)) ∙ deletes_from (c.rows t) t up)
+        ∙ ap (tables_after rest) (ap (tables_after (deletes c t)) (sym (same t)) ∙ deletes_from [] (c.rows t) t up)
 
     -- rows come into the empty table
     tables_after-puts : (t new : Tables) (rest : List Change) → c.rows t ≡ [] → IsTrue (rises o (c.rows new)) → tables_after (puts c new ++ rest) t ≡ tables_after rest (c.with_rows (c.rows new) t)

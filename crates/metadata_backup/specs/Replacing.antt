@@ -1,5 +1,5 @@
 -- The batch that puts tables in place of others: it deletes all rows, and then puts all rows.
-use Rattle.std.specs.Prelude.{List, [], ◌∷◌, ◌++◌, map}
+use Rattle.std.specs.Prelude.{List, [], ◌∷◌, ◌++◌, map, reverse}
 use Rattle.s3_rows.specs.declared.change.Change.{Change}
 use Rattle.s3_rows.specs.declared.change.Change.TheVariants as changes
 use Rattle.s3_rows.specs.Rows.{Inode, Name, Content, InodeBlock, Block, Object, Target, Attr, Slot, Parameters}
@@ -84,9 +84,9 @@ slot_changes = record {
   with_rows = λ rows t. record t { slots = rows };
 }
 
--- deletes of all rows of a table, and puts of them
+-- deletes of all rows of a table, from the last on, and puts of them
 abbrev pub deletes : {R : Type 0} → RowChanges R → Tables → List Change
-deletes c t = map c.delete_of (c.rows t)
+deletes c t = map c.delete_of (reverse (c.rows t))
 
 abbrev pub puts : {R : Type 0} → RowChanges R → Tables → List Change
 puts c t = map c.put_of (c.rows t)

@@ -1,5 +1,5 @@
 //! Rows of each table as changes of a batch.
-ghost use Rattle.std.specs.Prelude.{◌≡◌, ◌++◌, map, OnOk};
+ghost use Rattle.std.specs.Prelude.{◌≡◌, ◌++◌, map, reverse, OnOk};
 ghost use Rattle.metadata_backup.specs.Replacing.{RowChanges, inode_changes, name_changes, content_changes, inode_block_changes, block_changes, object_changes, target_changes, attr_changes, slot_changes};
 
 use s3_base::Sequence;
@@ -144,15 +144,16 @@ pub(crate) fn put_rows<T: ChangedRow>(
     Ok(())
 }
 
-/// Adds the deletes of rows.
+/// Adds the deletes of rows, from the last on, so that a keeper takes each off the end.
 pub(crate) fn delete_rows<T: ChangedRow>(
     batch: &mut Batch,
     rows: &Sequence<T>,
 ) -> Result<(), AllocError>
-    ensures { OnOk result (batch.new ≡ batch.old ++ map T.changes.delete_of rows.now) }
+    ensures { OnOk result (batch.new ≡ batch.old ++ map T.changes.delete_of (reverse rows.now)) }
 {
-    for row in rows.as_slice() {
-        batch.push(row.delete())?;
+    let rows = rows.as_slice();
+    for done in 0..rows.len() {
+        batch.push(rows[rows.len() - 1 - done].delete())?;
     }
     Ok(())
 }
