@@ -1,1 +1,3 @@
+mod BothTold
+mod Loaded
 mod Puts

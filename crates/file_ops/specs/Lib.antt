@@ -1,1 +1,4 @@
+pub mod FileBytes
+pub mod FileFaults
 pub mod Loads
+pub mod NewBlocks

@@ -1,5 +1,5 @@
 -- What a load and a store of an object answer.
-use Rattle.std.specs.Prelude.{◌≡◌, ◌≢◌, ℕ, ◌==◌, ◌<◌, ◌^◌, List, Bool, true, false, Option, None, Some, Result, Ok, Err, option_map, if◌then◌else◌}
+use Rattle.std.specs.Prelude.{◌≡◌, ◌≢◌, ℕ, ◌==◌, ◌<◌, ◌^◌, List, Bool, true, false, Option, Some, Result, Ok, Err, option_map, if◌then◌else◌}
 use Rattle.s3_rows.specs.declared.digest.Digest.{Digest}
 use Rattle.s3_devices.specs.Objects.{Objects}
 use Rattle.s3_devices.specs.Keys.{objects_in}

@@ -1,10 +1,16 @@
-//! The bytes of files, in the object store and in rows. It has now what reads and writes one object.
+//! The bytes of files, in the object store and in rows: what reads and writes one object, and what loads the blocks of a file.
 #![tactic(auto)]
 
+mod file_fault;
 mod load_fault;
+mod loading;
+mod new_block;
 mod stored;
 #[cfg(test)]
 mod tests;
 
+pub use file_fault::FileFault;
 pub use load_fault::LoadFault;
+pub use loading::load;
+pub use new_block::NewBlock;
 pub use stored::{fetch, store};

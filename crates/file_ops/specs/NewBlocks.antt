@@ -1,0 +1,16 @@
+-- Blocks of a file as they are to be after a change.
+use Rattle.std.specs.Prelude.{◌≡◌, ◌≤◌, ℕ, List, length, map, All}
+use Rattle.block_math.specs.Blocks.{piece_of, trimmed}
+use Rattle.file_ops.specs.declared.new_block.NewBlock.{NewBlock}
+
+-- their numbers
+abbrev pub numbers_of : List NewBlock → List ℕ
+numbers_of blocks = map (λ b. b.blockno) blocks
+
+-- each is a block of the file, up to its last byte that is not zero
+abbrev pub AreBlocksOf : ℕ → List ℕ → List NewBlock → Type 0
+AreBlocksOf block_size file blocks = All (λ b. b.stored ≡ trimmed (piece_of block_size file b.blockno)) blocks
+
+-- none has more bytes than a block
+abbrev pub AreShort : ℕ → List NewBlock → Type 0
+AreShort block_size blocks = All (λ b. length b.stored ≤ block_size) blocks
