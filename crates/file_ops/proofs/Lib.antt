@@ -1,3 +1,5 @@
 mod BothTold
 mod Loaded
+mod Losses
 mod Puts
+mod Ranges

@@ -5,6 +5,7 @@ mod file_fault;
 mod load_fault;
 mod loading;
 mod new_block;
+mod reading;
 mod stored;
 #[cfg(test)]
 mod tests;
@@ -13,4 +14,5 @@ pub use file_fault::FileFault;
 pub use load_fault::LoadFault;
 pub use loading::load;
 pub use new_block::NewBlock;
+pub use reading::read;
 pub use stored::{fetch, store};
