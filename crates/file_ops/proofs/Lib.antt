@@ -1,5 +1,7 @@
 mod BothTold
 mod Loaded
 mod Losses
+mod Needed
 mod Puts
 mod Ranges
+mod Trimmed

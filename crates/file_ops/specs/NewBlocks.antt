@@ -1,5 +1,5 @@
 -- Blocks of a file as they are to be after a change.
-use Rattle.std.specs.Prelude.{◌≡◌, ◌≤◌, ℕ, List, length, map, All}
+use Rattle.std.specs.Prelude.{◌≡◌, ◌≤◌, ℕ, List, [], ◌∷◌, length, map, Option, None, Some, All}
 use Rattle.block_math.specs.Blocks.{piece_of, trimmed}
 use Rattle.file_ops.specs.declared.new_block.NewBlock.{NewBlock}
 
@@ -14,3 +14,8 @@ AreBlocksOf block_size file blocks = All (λ b. b.stored ≡ trimmed (piece_of b
 -- none has more bytes than a block
 abbrev pub AreShort : ℕ → List NewBlock → Type 0
 AreShort block_size blocks = All (λ b. length b.stored ≤ block_size) blocks
+
+-- the number of a tail, as a list; none without one
+abbrev pub number_of_tail : Option ℕ → List ℕ
+number_of_tail None = []
+number_of_tail (Some n) = n ∷ []

@@ -9,6 +9,7 @@ mod reading;
 mod stored;
 #[cfg(test)]
 mod tests;
+mod writing;
 
 pub use file_fault::FileFault;
 pub use load_fault::LoadFault;
@@ -16,3 +17,4 @@ pub use loading::load;
 pub use new_block::NewBlock;
 pub use reading::read;
 pub use stored::{fetch, store};
+pub use writing::{resized_blocks, written_blocks};
