@@ -1,8 +1,12 @@
-use crate::{LoadFault, fetch, store};
+ghost use Rattle.std.specs.Prelude.{◌<◌, ◌≤◌, ◌^◌, length};
+ghost use Rattle.s3_rows.specs.Rows.{IsBlockSize, IsId};
+
+use crate::{LoadFault, NewBlock, fetch, load, read, resized_blocks, store, written_blocks};
 use hash_index::digest;
+use mem_keeper::MemKeeper;
 use mem_link::MemLink;
 use s3_base::ByteList;
-use s3_rows::Digest;
+use s3_rows::{Batch, BlockRow, Change, Digest, InodeBlockRow, Keeper};
 use std::alloc::Global;
 use std::test::Fail;
 
@@ -52,5 +56,71 @@ fn stored_objects_are_read(rt: HostRuntime) -> Result<(), Fail> {
             got: Some(OF_ABD)
         })
     );
+    Ok(())
+}
+
+// Puts the bytes of a block of file 5 under object `id`, with its rows.
+fn add_block(
+    alloc: Global,
+    keeper: &mut MemKeeper,
+    link: &mut MemLink,
+    id: u64,
+    blockno: u64,
+    text: &[u8],
+) -> Result<(), Fail>
+    requires id { IsId id }
+    requires place { blockno < 2 ^ 38 }
+    requires size { IsBlockSize (length text.now) }
+{
+    store(alloc, link, id, &bytes(alloc, text)?)?;
+    let mut batch = Batch::new(alloc);
+    batch.push(Change::PutBlock(BlockRow {
+        id,
+        digest: digest(text),
+        refcount: 1,
+        size: text.len() as u32,
+        object: id,
+    }))?;
+    batch.push(Change::PutInodeBlock(InodeBlockRow {
+        inode: 5,
+        blockno,
+        block: id,
+    }))?;
+    keeper.commit(&batch)?;
+    Ok(())
+}
+
+fn is_block(block: Option<&NewBlock>, blockno: u64, text: &[u8]) -> bool {
+    match block {
+        Some(block) => block.blockno == blockno && block.stored.as_slice() == text,
+        None => false,
+    }
+}
+
+// A file of 10 bytes in blocks of 4, the second of which is a hole: `abcd`, zeros, `ef`.
+#[test]
+fn blocks_of_files_are_loaded(rt: HostRuntime) -> Result<(), Fail> {
+    let alloc = rt.alloc();
+    let mut keeper = MemKeeper::new(alloc);
+    let mut link = MemLink::new(alloc);
+    add_block(alloc, &mut keeper, &mut link, 1, 0, b"abcd".as_slice())?;
+    add_block(alloc, &mut keeper, &mut link, 2, 2, b"ef".as_slice())?;
+    assert_eq!(rt;
+        load(alloc, &mut keeper, &mut link, 5, 2),
+        Ok(bytes(alloc, b"ef".as_slice())?)
+    );
+    assert_eq!(rt;
+        read(alloc, &mut keeper, &mut link, 5, 10, 4, 2, 100),
+        Ok(bytes(alloc, b"cd\0\0\0\0ef".as_slice())?)
+    );
+    // A write over the end of the first block and the begin of the second.
+    let written = written_blocks(alloc, &mut keeper, &mut link, 5, 10, 4, 3, b"XY".as_slice())?;
+    assert_eq!(rt; written.len(), 2);
+    assert!(rt; is_block(written.first(), 0, b"abcX".as_slice()));
+    assert!(rt; is_block(written.get(1), 1, b"Y".as_slice()));
+    // One byte less.
+    let resized = resized_blocks(alloc, &mut keeper, &mut link, 5, 10, 4, 9)?;
+    assert_eq!(rt; resized.len(), 1);
+    assert!(rt; is_block(resized.first(), 2, b"e".as_slice()));
     Ok(())
 }
