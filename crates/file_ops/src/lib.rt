@@ -1,4 +1,5 @@
-//! The bytes of files, in the object store and in rows: what reads and writes one object, and what loads the blocks of a file.
+//! The bytes of files, in the object store and in rows: what reads and writes one object, and what loads, reads and changes the blocks of
+//! a file.
 #![tactic(auto)]
 
 mod file_fault;
