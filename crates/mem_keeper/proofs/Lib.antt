@@ -1,6 +1,7 @@
 pub mod Least
 pub mod Listed
+pub mod Parts
+pub mod Places
 pub mod Ranges
-pub mod Spotted
 pub mod Standing
 pub mod Tabled

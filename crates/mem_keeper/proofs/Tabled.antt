@@ -1,7 +1,7 @@
 -- Rows by their keys in a map: their look-ups, and what changes of the map make of them.
 use Rattle.std.proofs.Common.{◌≡◌, ℕ, ◌+◌, ◌<◌, ◌≤◌, arith, drop, get_or, append-nil, take_all, length, take, ◌++◌, not, ◌&&◌, List, [], ◌∷◌, Bool, true, false, cond, Option, None, Some, refl, sym, ap, ◌∙◌, subst}
 use Rattle.std.specs.Prelude.{IsTrue, IfSome, is_some}
-use Rattle.std.specs.List.{AllByRecursion, list_all, filter}
+use Rattle.std.specs.List.{AllByRecursion, list_all, filter, cons_option}
 use Rattle.std.specs.List.Sorted.{IsStrictlySortedBy}
 use Rattle.std.specs.Map.{keys_of, lookup, remove_entry}
 use Rattle.std.specs.BTreeMap.{is_at, insert_entry}
@@ -254,3 +254,28 @@ take_full front rest max is =
 pub take_whole : {R : Type 0} (front rest : List R) (max : ℕ) → length front ≤ max → rest ≡ [] → front ≡ take max (front ++ rest)
 take_whole front rest max few none =
     sym (ap (λ l. take max (front ++ l)) none ∙ ap (take max) (append-nil front) ∙ take_all max front few)
+
+-- ---- walks over all entries
+
+pub filter-more : {K R : Type 0} (test : R → Bool) (k : K) (v : Option R) (es : List (K × Option R))
+    → filter test (cons_option v []) ++ filter test (rows_of es) ≡ filter test (rows_of ((k, v) ∷ es))
+filter-more test k None es = refl
+filter-more test k (Some r) es = by_case (test r)
+  where
+    by_case : (b : Bool) → cond b (r ∷ []) [] ++ filter test (rows_of es) ≡ cond b (r ∷ filter test (rows_of es)) (filter test (rows_of es))
+    by_case true = refl
+    by_case false = refl
+
+pub all_held : {K R : Type 0} (P : R → Type 0) (k : K) (v : Option R) (es : List (K × Option R)) → IfSome v P
+    → AllByRecursion P (rows_of es) → AllByRecursion P (rows_of ((k, v) ∷ es))
+all_held P k None es here all = all
+all_held P k (Some r) es here all = (here, all)
+
+pub if_held : {R : Type 0} (P Q : R → Type 0) → ((r : R) → P r → Q r) → (v : Option R) → IfSome v P → IfSome v Q
+if_held P Q weaker None here = tt
+if_held P Q weaker (Some r) here = weaker r here
+
+pub entries_everywhere : {K X : Type 0} (cmp : K → K → Ordering) (es : List (K × X))
+    → filter (λ e. range_contains cmp Unbounded Unbounded e.0) es ≡ es
+entries_everywhere cmp [] = refl
+entries_everywhere cmp (e ∷ es) = ap (λ l. e ∷ l) (entries_everywhere cmp es)

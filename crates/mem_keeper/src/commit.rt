@@ -1,129 +1,92 @@
 //! A batch, committed whole or not at all.
-ghost use Rattle.std.specs.Prelude.{◌≡◌, ℕ, ◌+◌, length, IsTrue, IfOk, OnOk, OnErr, All};
-ghost use Rattle.std.specs.Vec.{vec_len, vec_capacity};
-ghost use Rattle.s3_rows.specs.Tables.{IsOrdered, by_spot};
+ghost use Rattle.std.specs.Prelude.{◌≡◌, IsTrue, IfOk, OnOk, OnErr, All};
 ghost use Rattle.s3_rows.specs.Batches.{tables_after};
 ghost use Rattle.s3_rows.specs.Ranges.{HasRanges};
 ghost use Rattle.mem_keeper.specs.Indexes.{Stand, IsListedChange, StayListed};
-ghost use Rattle.mem_keeper.specs.Store.{tables_of, spots_of, IsSettled, HasPlace, HasRoom};
-ghost use Rattle.mem_keeper.specs.Table.{IsTable};
+ghost use Rattle.mem_keeper.specs.Store.{IsMaps, tables_in, tables_of, HasPlace};
 
 use crate::indexes::{Indexes, list_changes, tidy};
-use crate::spots::{Spots, drop_change, hold_change, settle};
-use crate::store::{Gone, Store, apply_change};
+use crate::store::{Gone, Maps, Store, apply_change, drop_change, hold_change, settle};
 use s3_rows::{Batch, Change};
 use std::alloc::{AllocError, Global};
 
-// Makes room for this many more rows in each table.
-fn make_room(store: &mut Store, rows: usize) -> Result<(), AllocError>
-    ensures same { tables_of store.new ≡ tables_of store.old }
-    ensures spots { store.new.inode_blocks ≡ store.old.inode_blocks }
-    ensures ok { OnOk result (HasRoom rows store.new) }
-{
-    store.inodes.reserve(rows)?;
-    store.names.reserve(rows)?;
-    store.contents.reserve(rows)?;
-    store.blocks.reserve(rows)?;
-    store.objects.reserve(rows)?;
-    store.targets.reserve(rows)?;
-    store.attrs.reserve(rows)?;
-    store.slots.reserve(rows)
-}
-
-// Holds the places of the blocks of files that the changes put.
-fn hold_places(spots: &mut Spots, changes: &[Change]) -> Result<(), AllocError>
-    requires { IsSettled spots.old }
-    ensures settled { IsSettled spots.new }
-    ensures rows { spots_of spots.new ≡ spots_of spots.old }
-    ensures held { OnOk result (All (HasPlace spots.new) changes.now) }
+// Holds the places of the rows that the changes put.
+fn hold_places(maps: &mut Maps, changes: &[Change]) -> Result<(), AllocError>
+    requires { IsMaps maps.old }
+    ensures maps { IsMaps maps.new }
+    ensures tables { tables_in maps.new ≡ tables_in maps.old }
+    ensures held { OnOk result (All (HasPlace maps.new) changes.now) }
 {
     for change in changes {
-        hold_change(spots, change)?;
+        hold_change(maps, change)?;
     }
     Ok(())
 }
 
-// Lets go of the places of blocks of files that have no row.
-fn drop_places(spots: &mut Spots, changes: &[Change])
-    requires { IsSettled spots.old }
-    ensures settled { IsSettled spots.new }
-    ensures rows { spots_of spots.new ≡ spots_of spots.old }
+// Lets go of the places that have no row.
+fn drop_places(maps: &mut Maps, changes: &[Change])
+    requires { IsMaps maps.old }
+    ensures maps { IsMaps maps.new }
+    ensures tables { tables_in maps.new ≡ tables_in maps.old }
 {
     for change in changes {
-        drop_change(spots, change);
+        drop_change(maps, change);
     }
 }
 
 // Makes the changes in order.
-fn apply_changes(store: &mut Store, gone: &mut Gone, mut changes: Vec<Change>)
-    requires ordered { IsOrdered (tables_of store.old) }
-    requires ranges { HasRanges (tables_of store.old) }
-    requires settled { IsSettled store.old.inode_blocks }
-    requires places { All (HasPlace store.old.inode_blocks) changes.items }
-    requires room { HasRoom (length changes.items) store.old }
-    ensures tables { tables_of store.new ≡ tables_after changes.items (tables_of store.old) }
-    ensures ranges { HasRanges (tables_of store.new) }
-    ensures settled { IsSettled store.new.inode_blocks }
+fn apply_changes(maps: &mut Maps, gone: &mut Gone, mut changes: Vec<Change>)
+    requires maps { IsMaps maps.old }
+    requires ranges { HasRanges (tables_in maps.old) }
+    requires places { All (HasPlace maps.old) changes.items }
+    ensures tables { tables_in maps.new ≡ tables_after changes.items (tables_in maps.old) }
+    ensures ranges { HasRanges (tables_in maps.new) }
+    ensures maps { IsMaps maps.new }
 {
     changes.reverse();
     while let Some(change) = changes.pop() {
-        apply_change(store, gone, change);
+        apply_change(maps, gone, change);
     }
 }
 
 // Makes the changes in order, and keeps the indexes.
-fn apply_whole(store: &mut Store, indexes: &mut Indexes, mut gone: Gone, changes: Vec<Change>)
-    requires ordered { IsOrdered (tables_of store.old) }
-    requires ranges { HasRanges (tables_of store.old) }
-    requires settled { IsSettled store.old.inode_blocks }
-    requires places { All (HasPlace store.old.inode_blocks) changes.items }
-    requires room { HasRoom (length changes.items) store.old }
-    requires standing { IsTrue indexes.old.stand → Stand indexes.old (tables_of store.old) }
+fn apply_whole(maps: &mut Maps, indexes: &mut Indexes, mut gone: Gone, changes: Vec<Change>)
+    requires maps { IsMaps maps.old }
+    requires ranges { HasRanges (tables_in maps.old) }
+    requires places { All (HasPlace maps.old) changes.items }
+    requires standing { IsTrue indexes.old.stand → Stand indexes.old (tables_in maps.old) }
     requires listed { IsTrue indexes.old.stand → All (IsListedChange indexes.old) changes.items }
-    ensures tables { tables_of store.new ≡ tables_after changes.items (tables_of store.old) }
-    ensures ordered { IsOrdered (tables_of store.new) }
-    ensures standing { IsTrue indexes.new.stand → Stand indexes.new (tables_of store.new) }
-    ensures ranges { HasRanges (tables_of store.new) }
-    ensures settled { IsSettled store.new.inode_blocks }
+    ensures tables { tables_in maps.new ≡ tables_after changes.items (tables_in maps.old) }
+    ensures standing { IsTrue indexes.new.stand → Stand indexes.new (tables_in maps.new) }
+    ensures ranges { HasRanges (tables_in maps.new) }
+    ensures maps { IsMaps maps.new }
 {
-    apply_changes(store, &mut gone, changes);
+    apply_changes(maps, &mut gone, changes);
     if indexes.stand {
-        tidy(indexes, store, &gone);
+        tidy(indexes, maps, &gone);
     }
 }
 
 // Makes the changes in order, or none where there is no memory for the places of their rows.
 fn hold_and_apply(
-    store: &mut Store,
+    maps: &mut Maps,
     indexes: &mut Indexes,
     gone: Gone,
     changes: Vec<Change>,
 ) -> Result<(), AllocError>
-    requires ordered { IsOrdered (tables_of store.old) }
-    requires ranges { HasRanges (tables_of store.old) }
-    requires settled { IsSettled store.old.inode_blocks }
-    requires room { HasRoom (length changes.items) store.old }
-    requires standing { IsTrue indexes.old.stand → Stand indexes.old (tables_of store.old) }
+    requires maps { IsMaps maps.old }
+    requires ranges { HasRanges (tables_in maps.old) }
+    requires standing { IsTrue indexes.old.stand → Stand indexes.old (tables_in maps.old) }
     requires listed { IsTrue indexes.old.stand → All (IsListedChange indexes.old) changes.items }
-    ensures ok { OnOk result (tables_of store.new ≡ tables_after changes.items (tables_of store.old)) }
-    ensures err { OnErr result (tables_of store.new ≡ tables_of store.old) }
-    ensures ordered { IsOrdered (tables_of store.new) }
-    ensures standing { IsTrue indexes.new.stand → Stand indexes.new (tables_of store.new) }
-    ensures ranges { HasRanges (tables_of store.new) }
-    ensures settled { IsSettled store.new.inode_blocks }
+    ensures ok { OnOk result (tables_in maps.new ≡ tables_after changes.items (tables_in maps.old)) }
+    ensures err { OnErr result (tables_in maps.new ≡ tables_in maps.old) }
+    ensures standing { IsTrue indexes.new.stand → Stand indexes.new (tables_in maps.new) }
+    ensures ranges { HasRanges (tables_in maps.new) }
+    ensures maps { IsMaps maps.new }
 {
-    hold_places(&mut store.inode_blocks, changes.as_slice())?;
-    apply_whole(store, indexes, gone, changes);
+    hold_places(maps, changes.as_slice())?;
+    apply_whole(maps, indexes, gone, changes);
     Ok(())
-}
-
-// Lets go of all places that have no row.
-fn let_go(store: &mut Store, changes: &[Change])
-    requires { IsSettled store.old.inode_blocks }
-    ensures tables { tables_of store.new ≡ tables_of store.old }
-    ensures settled { IsSettled store.new.inode_blocks }
-{
-    drop_places(&mut store.inode_blocks, changes);
 }
 
 // Lists the rows that the changes put, where the indexes stand.
@@ -154,6 +117,30 @@ fn room_for_gone(alloc: Global, rows: usize) -> Result<Gone, AllocError> {
     })
 }
 
+// Makes the changes of a batch in the maps, or changes nothing where there is no memory.
+fn commit_maps(
+    alloc: Global,
+    maps: &mut Maps,
+    indexes: &mut Indexes,
+    batch: &Batch,
+) -> Result<(), AllocError>
+    requires maps { IsMaps maps.old }
+    requires ranges { HasRanges (tables_in maps.old) }
+    requires standing { IsTrue indexes.old.stand → Stand indexes.old (tables_in maps.old) }
+    ensures ok { OnOk result (tables_in maps.new ≡ tables_after batch.now (tables_in maps.old)) }
+    ensures err { OnErr result (tables_in maps.new ≡ tables_in maps.old) }
+    ensures standing { IsTrue indexes.new.stand → Stand indexes.new (tables_in maps.new) }
+    ensures ranges { HasRanges (tables_in maps.new) }
+    ensures maps { IsMaps maps.new }
+{
+    let changes = copy_of(batch)?.into_vec();
+    let gone = room_for_gone(alloc, changes.len())?;
+    list_puts(indexes, alloc, changes.as_slice())?;
+    let done = hold_and_apply(maps, indexes, gone, changes);
+    drop_places(maps, batch.as_slice());
+    done
+}
+
 /// Makes the changes of a batch, or changes nothing where there is no memory.
 pub(crate) fn commit_batch(
     alloc: Global,
@@ -161,23 +148,15 @@ pub(crate) fn commit_batch(
     indexes: &mut Indexes,
     batch: &Batch,
 ) -> Result<(), AllocError>
-    requires ordered { IsOrdered (tables_of store.old) }
+    requires maps { IsMaps store.old.maps }
     requires ranges { HasRanges (tables_of store.old) }
-    requires spots { IsTable by_spot store.old.inode_blocks.map.entries }
     requires standing { IsTrue indexes.old.stand → Stand indexes.old (tables_of store.old) }
     ensures ok { OnOk result (tables_of store.new ≡ tables_after batch.now (tables_of store.old)) }
     ensures err { OnErr result (tables_of store.new ≡ tables_of store.old) }
-    ensures ordered { IsOrdered (tables_of store.new) }
     ensures standing { IsTrue indexes.new.stand → Stand indexes.new (tables_of store.new) }
     ensures ranges { HasRanges (tables_of store.new) }
-    ensures spots { IsTable by_spot store.new.inode_blocks.map.entries }
+    ensures maps { IsMaps store.new.maps }
 {
-    let changes = copy_of(batch)?.into_vec();
-    let gone = room_for_gone(alloc, changes.len())?;
-    settle(&mut store.inode_blocks, alloc)?;
-    make_room(store, changes.len())?;
-    list_puts(indexes, alloc, changes.as_slice())?;
-    let done = hold_and_apply(store, indexes, gone, changes);
-    let_go(store, batch.as_slice());
-    done
+    settle(store, alloc)?;
+    commit_maps(alloc, &mut store.maps, indexes, batch)
 }

@@ -1,18 +1,20 @@
 //! The indexes of names and blocks, and how a batch keeps them.
-ghost use Rattle.std.specs.Prelude.{◌≡◌, false, option_map, IsTrue, IfOk, OnOk, All};
+ghost use Rattle.std.specs.Prelude.{◌≡◌, ℕ, List, IfSome, false, option_map, IsTrue, IfOk, OnOk, All};
 ghost use Rattle.std.specs.Ordering.{nat_cmp};
-ghost use Rattle.s3_rows.specs.Keyed.{rises};
-ghost use Rattle.s3_rows.specs.Tables.{by_name, by_block, IsOrdered};
+ghost use Rattle.s3_rows.specs.Tables.{by_name, by_block};
 ghost use Rattle.s3_rows.specs.Selections.{name_of_bytes, block_of_digest};
-ghost use Rattle.mem_keeper.specs.Index.{Covers};
+ghost use Rattle.mem_keeper.specs.Index.{Covers, IsListed};
 ghost use Rattle.mem_keeper.specs.Indexes.{Stand, IsListedChange, StayListed};
-ghost use Rattle.mem_keeper.specs.Store.{tables_of};
+ghost use Rattle.mem_keeper.specs.Store.{IsMaps, tables_in};
+ghost use Rattle.mem_keeper.specs.Table.{rows_of, IsTable};
 
 use crate::index::Index;
 use crate::look_ups::{Indexed, block_of_digest_of, has_bytes, name_id_of};
-use crate::store::{Gone, Store};
+use crate::store::{Gone, Maps};
 use s3_rows::{BlockRow, Change, Digest};
 use std::alloc::{AllocError, Global};
+use std::collections::BTreeMap;
+use std::ops::Bound;
 
 /// Indexes of the names by their bytes and of the blocks by their digests. They may not stand yet.
 #[derive(Debug, Drop)]
@@ -35,29 +37,48 @@ impl Indexes {
     }
 }
 
-// Lists all rows of a table.
-fn list_rows<R: Indexed>(index: &mut Index, alloc: Global, rows: &[R]) -> Result<(), AllocError>
-    requires { IsTrue (rises (record { compare = nat_cmp; key = R.key }) rows.now) }
-    ensures { OnOk result (Covers (record { compare = nat_cmp; key = R.key }) R.bytes index.new rows.now) }
+// Lists a row that is there.
+fn list_held<R: Indexed>(
+    index: &mut Index,
+    alloc: Global,
+    held: &Option<R>,
+) -> Result<(), AllocError>
+    ensures kept { (q : List ℕ) (n : ℕ) → IsListed index.old q n → IsListed index.new q n }
+    ensures listed { OnOk result (IfSome held.now (λ r. IsListed index.new (R.bytes r) (R.key r))) }
 {
-    for row in rows {
+    if let Some(row) = held {
         index.add(alloc, row.bytes(), row.key())?;
     }
     Ok(())
 }
 
+// Lists all rows of a table.
+fn list_rows<R: Indexed>(
+    index: &mut Index,
+    alloc: Global,
+    table: &BTreeMap<u64, Option<R>>,
+) -> Result<(), AllocError>
+    ensures { OnOk result (Covers (record { compare = nat_cmp; key = R.key }) R.bytes index.new (rows_of table.now.entries)) }
+{
+    let mut entries = table.range((Bound::<u64>::Unbounded, Bound::<u64>::Unbounded));
+    while let Some((_, held)) = entries.next() {
+        list_held(index, alloc, held)?;
+    }
+    Ok(())
+}
+
 /// Builds the indexes where they do not stand.
-pub(crate) fn build(indexes: &mut Indexes, alloc: Global, store: &Store) -> Result<(), AllocError>
-    requires ordered { IsOrdered (tables_of store.now) }
-    requires standing { IsTrue indexes.old.stand → Stand indexes.old (tables_of store.now) }
+pub(crate) fn build(indexes: &mut Indexes, alloc: Global, maps: &Maps) -> Result<(), AllocError>
+    requires maps { IsMaps maps.now }
+    requires standing { IsTrue indexes.old.stand → Stand indexes.old (tables_in maps.now) }
     ensures ok { OnOk result (IsTrue indexes.new.stand) }
-    ensures standing { IsTrue indexes.new.stand → Stand indexes.new (tables_of store.now) }
+    ensures standing { IsTrue indexes.new.stand → Stand indexes.new (tables_in maps.now) }
 {
     if indexes.stand {
         return Ok(());
     }
-    list_rows(&mut indexes.names, alloc, &store.names)?;
-    list_rows(&mut indexes.blocks, alloc, &store.blocks)?;
+    list_rows(&mut indexes.names, alloc, &maps.names.map)?;
+    list_rows(&mut indexes.blocks, alloc, &maps.blocks)?;
     indexes.stand = true;
     Ok(())
 }
@@ -66,32 +87,32 @@ pub(crate) fn build(indexes: &mut Indexes, alloc: Global, store: &Store) -> Resu
 pub(crate) fn name_id_in(
     indexes: &mut Indexes,
     alloc: Global,
-    store: &Store,
+    maps: &Maps,
     name: &[u8],
 ) -> Result<Option<u64>, AllocError>
-    requires ordered { IsOrdered (tables_of store.now) }
-    requires standing { IsTrue indexes.old.stand → Stand indexes.old (tables_of store.now) }
-    ensures row { IfOk result (λ r. r ≡ option_map (λ n. n.id) (name_of_bytes (tables_of store.now) name.now)) }
-    ensures standing { IsTrue indexes.new.stand → Stand indexes.new (tables_of store.now) }
+    requires maps { IsMaps maps.now }
+    requires standing { IsTrue indexes.old.stand → Stand indexes.old (tables_in maps.now) }
+    ensures row { IfOk result (λ r. r ≡ option_map (λ n. n.id) (name_of_bytes (tables_in maps.now) name.now)) }
+    ensures standing { IsTrue indexes.new.stand → Stand indexes.new (tables_in maps.now) }
 {
-    build(indexes, alloc, store)?;
-    Ok(name_id_of(&indexes.names, &store.names, name))
+    build(indexes, alloc, maps)?;
+    Ok(name_id_of(&indexes.names, &maps.names, name))
 }
 
 /// The block of the least id with this digest. It builds the indexes where they do not stand.
 pub(crate) fn block_of_digest_in(
     indexes: &mut Indexes,
     alloc: Global,
-    store: &Store,
+    maps: &Maps,
     digest: &Digest,
 ) -> Result<Option<BlockRow>, AllocError>
-    requires ordered { IsOrdered (tables_of store.now) }
-    requires standing { IsTrue indexes.old.stand → Stand indexes.old (tables_of store.now) }
-    ensures row { IfOk result (λ r. r ≡ block_of_digest (tables_of store.now) digest.now) }
-    ensures standing { IsTrue indexes.new.stand → Stand indexes.new (tables_of store.now) }
+    requires maps { IsMaps maps.now }
+    requires standing { IsTrue indexes.old.stand → Stand indexes.old (tables_in maps.now) }
+    ensures row { IfOk result (λ r. r ≡ block_of_digest (tables_in maps.now) digest.now) }
+    ensures standing { IsTrue indexes.new.stand → Stand indexes.new (tables_in maps.now) }
 {
-    build(indexes, alloc, store)?;
-    Ok(block_of_digest_of(&indexes.blocks, &store.blocks, digest))
+    build(indexes, alloc, maps)?;
+    Ok(block_of_digest_of(&indexes.blocks, &maps.blocks, digest))
 }
 
 // Lists the row that a change puts.
@@ -124,33 +145,33 @@ pub(crate) fn list_changes(
 }
 
 // Takes the id of a row that is gone from under its bytes, but not where a row of the id has these bytes now.
-fn unlist<R: Indexed>(index: &mut Index, rows: &[R], gone: &R)
-    requires rises { IsTrue (rises (record { compare = nat_cmp; key = R.key }) rows.now) }
-    requires covers { Covers (record { compare = nat_cmp; key = R.key }) R.bytes index.old rows.now }
-    ensures { Covers (record { compare = nat_cmp; key = R.key }) R.bytes index.new rows.now }
+fn unlist<R: Indexed>(index: &mut Index, table: &BTreeMap<u64, Option<R>>, gone: &R)
+    requires table { IsTable (record { compare = nat_cmp; key = R.key }) table.now.entries }
+    requires covers { Covers (record { compare = nat_cmp; key = R.key }) R.bytes index.old (rows_of table.now.entries) }
+    ensures { Covers (record { compare = nat_cmp; key = R.key }) R.bytes index.new (rows_of table.now.entries) }
 {
-    if !has_bytes(rows, gone.key(), gone.bytes()) {
+    if !has_bytes(table, gone.key(), gone.bytes()) {
         index.remove(gone.bytes(), gone.key());
     }
 }
 
-fn unlist_all<R: Indexed>(index: &mut Index, rows: &[R], gone: &[R])
-    requires rises { IsTrue (rises (record { compare = nat_cmp; key = R.key }) rows.now) }
-    requires covers { Covers (record { compare = nat_cmp; key = R.key }) R.bytes index.old rows.now }
-    ensures { Covers (record { compare = nat_cmp; key = R.key }) R.bytes index.new rows.now }
+fn unlist_all<R: Indexed>(index: &mut Index, table: &BTreeMap<u64, Option<R>>, gone: &[R])
+    requires table { IsTable (record { compare = nat_cmp; key = R.key }) table.now.entries }
+    requires covers { Covers (record { compare = nat_cmp; key = R.key }) R.bytes index.old (rows_of table.now.entries) }
+    ensures { Covers (record { compare = nat_cmp; key = R.key }) R.bytes index.new (rows_of table.now.entries) }
 {
     for row in gone {
-        unlist(index, rows, row);
+        unlist(index, table, row);
     }
 }
 
 /// Takes out what is listed of rows that are gone.
-pub(crate) fn tidy(indexes: &mut Indexes, store: &Store, gone: &Gone)
-    requires ordered { IsOrdered (tables_of store.now) }
-    requires standing { Stand indexes.old (tables_of store.now) }
-    ensures standing { Stand indexes.new (tables_of store.now) }
+pub(crate) fn tidy(indexes: &mut Indexes, maps: &Maps, gone: &Gone)
+    requires maps { IsMaps maps.now }
+    requires standing { Stand indexes.old (tables_in maps.now) }
+    ensures standing { Stand indexes.new (tables_in maps.now) }
     ensures same { indexes.new.stand ≡ indexes.old.stand }
 {
-    unlist_all(&mut indexes.names, &store.names, &gone.names);
-    unlist_all(&mut indexes.blocks, &store.blocks, &gone.blocks);
+    unlist_all(&mut indexes.names, &maps.names.map, &gone.names);
+    unlist_all(&mut indexes.blocks, &maps.blocks, &gone.blocks);
 }

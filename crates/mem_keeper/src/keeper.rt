@@ -9,10 +9,12 @@ ghost use Rattle.mem_keeper.specs.Memory.{IsCall};
 use crate::MemKeeper;
 use crate::commit::commit_batch;
 use crate::indexes::{block_of_digest_in, name_id_in};
-use crate::look_ups::{attr_of, copy_of_row, name_of, target_of};
-use crate::pages::page_of_store;
-use crate::spots::{blocks_of_spots, settle, spot_at};
-use row_lists::{attrs_of, entries_of, free_objects_of, holder_of_inode, slot_of, slots_of};
+use crate::lists::{
+    attrs_in, blocks_in, entries_in, free_objects_in, holder_in, slot_in, slots_in,
+};
+use crate::look_ups::{attr_in, copy_of_row, entry_in, spot_in};
+use crate::pages::page_in;
+use crate::store::settle;
 use s3_base::{ByteList, NumberList};
 use s3_rows::{
     AttrRow, Batch, BlockRow, ContentRow, Digest, EntryList, InodeBlockList, InodeBlockRow,
@@ -52,7 +54,8 @@ impl Keeper for MemKeeper {
         ensures call { IsCall result self.old self.new }
     {
         self.begin()?;
-        Ok(self.store.params)
+        settle(&mut self.store, self.alloc)?;
+        Ok(self.store.maps.params)
     }
 
     fn inode(&mut self, id: u64) -> Result<Option<InodeRow>, KeeperFault>
@@ -62,7 +65,11 @@ impl Keeper for MemKeeper {
         ensures call { IsCall result self.old self.new }
     {
         self.begin()?;
-        Ok(copy_of_row(&self.store.inodes, id))
+        settle(&mut self.store, self.alloc)?;
+        match copy_of_row(&self.store.maps.inodes, id) {
+            Ok(found) => Ok(found),
+            Err(_) => Err(KeeperFault::Memory),
+        }
     }
 
     fn name(&mut self, id: u64) -> Result<Option<NameRow>, KeeperFault>
@@ -72,7 +79,8 @@ impl Keeper for MemKeeper {
         ensures call { IsCall result self.old self.new }
     {
         self.begin()?;
-        match name_of(&self.store.names, id) {
+        settle(&mut self.store, self.alloc)?;
+        match copy_of_row(&self.store.maps.names.map, id) {
             Ok(found) => Ok(found),
             Err(_) => Err(KeeperFault::Memory),
         }
@@ -85,7 +93,13 @@ impl Keeper for MemKeeper {
         ensures call { IsCall result self.old self.new }
     {
         self.begin()?;
-        match name_id_in(&mut self.indexes, self.alloc, &self.store, name.as_slice()) {
+        settle(&mut self.store, self.alloc)?;
+        match name_id_in(
+            &mut self.indexes,
+            self.alloc,
+            &self.store.maps,
+            name.as_slice(),
+        ) {
             Ok(found) => Ok(found),
             Err(_) => Err(KeeperFault::Memory),
         }
@@ -98,7 +112,11 @@ impl Keeper for MemKeeper {
         ensures call { IsCall result self.old self.new }
     {
         self.begin()?;
-        Ok(copy_of_row(&self.store.contents, (parent, name_id)))
+        settle(&mut self.store, self.alloc)?;
+        match entry_in(&self.store.maps, parent, name_id) {
+            Ok(found) => Ok(found),
+            Err(_) => Err(KeeperFault::Memory),
+        }
     }
 
     fn entries(&mut self, parent: u64, after: &ByteList, max: u32) -> Result<EntryList, KeeperFault>
@@ -110,14 +128,8 @@ impl Keeper for MemKeeper {
         ensures call { IsCall result self.old self.new }
     {
         self.begin()?;
-        match entries_of(
-            self.alloc,
-            &self.store.contents,
-            &self.store.names,
-            parent,
-            after,
-            max,
-        ) {
+        settle(&mut self.store, self.alloc)?;
+        match entries_in(self.alloc, &self.store.maps, parent, after, max) {
             Ok(found) => Ok(found),
             Err(_) => Err(KeeperFault::Memory),
         }
@@ -130,7 +142,11 @@ impl Keeper for MemKeeper {
         ensures call { IsCall result self.old self.new }
     {
         self.begin()?;
-        Ok(holder_of_inode(&self.store.contents, &self.store.names, inode))
+        settle(&mut self.store, self.alloc)?;
+        match holder_in(self.alloc, &self.store.maps, inode) {
+            Ok(found) => Ok(found),
+            Err(_) => Err(KeeperFault::Memory),
+        }
     }
 
     fn block_at(&mut self, inode: u64, blockno: u64) -> Result<Option<InodeBlockRow>, KeeperFault>
@@ -140,8 +156,11 @@ impl Keeper for MemKeeper {
         ensures call { IsCall result self.old self.new }
     {
         self.begin()?;
-        settle(&mut self.store.inode_blocks, self.alloc)?;
-        Ok(spot_at(&self.store.inode_blocks, inode, blockno))
+        settle(&mut self.store, self.alloc)?;
+        match spot_in(&self.store.maps, inode, blockno) {
+            Ok(found) => Ok(found),
+            Err(_) => Err(KeeperFault::Memory),
+        }
     }
 
     fn blocks_of(&mut self, inode: u64, from: u64, max: u32) -> Result<InodeBlockList, KeeperFault>
@@ -153,8 +172,8 @@ impl Keeper for MemKeeper {
         ensures call { IsCall result self.old self.new }
     {
         self.begin()?;
-        settle(&mut self.store.inode_blocks, self.alloc)?;
-        match blocks_of_spots(self.alloc, &self.store.inode_blocks, inode, from, max) {
+        settle(&mut self.store, self.alloc)?;
+        match blocks_in(self.alloc, &self.store.maps, inode, from, max) {
             Ok(found) => Ok(found),
             Err(_) => Err(KeeperFault::Memory),
         }
@@ -167,7 +186,11 @@ impl Keeper for MemKeeper {
         ensures call { IsCall result self.old self.new }
     {
         self.begin()?;
-        Ok(copy_of_row(&self.store.blocks, id))
+        settle(&mut self.store, self.alloc)?;
+        match copy_of_row(&self.store.maps.blocks, id) {
+            Ok(found) => Ok(found),
+            Err(_) => Err(KeeperFault::Memory),
+        }
     }
 
     fn block_by_digest(&mut self, digest: &Digest) -> Result<Option<BlockRow>, KeeperFault>
@@ -177,7 +200,8 @@ impl Keeper for MemKeeper {
         ensures call { IsCall result self.old self.new }
     {
         self.begin()?;
-        match block_of_digest_in(&mut self.indexes, self.alloc, &self.store, digest) {
+        settle(&mut self.store, self.alloc)?;
+        match block_of_digest_in(&mut self.indexes, self.alloc, &self.store.maps, digest) {
             Ok(found) => Ok(found),
             Err(_) => Err(KeeperFault::Memory),
         }
@@ -190,7 +214,11 @@ impl Keeper for MemKeeper {
         ensures call { IsCall result self.old self.new }
     {
         self.begin()?;
-        Ok(copy_of_row(&self.store.objects, id))
+        settle(&mut self.store, self.alloc)?;
+        match copy_of_row(&self.store.maps.objects, id) {
+            Ok(found) => Ok(found),
+            Err(_) => Err(KeeperFault::Memory),
+        }
     }
 
     fn free_objects(&mut self, after: u64, max: u32) -> Result<NumberList, KeeperFault>
@@ -202,7 +230,8 @@ impl Keeper for MemKeeper {
         ensures call { IsCall result self.old self.new }
     {
         self.begin()?;
-        match free_objects_of(self.alloc, &self.store.objects, after, max) {
+        settle(&mut self.store, self.alloc)?;
+        match free_objects_in(self.alloc, &self.store.maps, after, max) {
             Ok(found) => Ok(found),
             Err(_) => Err(KeeperFault::Memory),
         }
@@ -215,7 +244,8 @@ impl Keeper for MemKeeper {
         ensures call { IsCall result self.old self.new }
     {
         self.begin()?;
-        match target_of(&self.store.targets, inode) {
+        settle(&mut self.store, self.alloc)?;
+        match copy_of_row(&self.store.maps.targets, inode) {
             Ok(found) => Ok(found),
             Err(_) => Err(KeeperFault::Memory),
         }
@@ -228,7 +258,8 @@ impl Keeper for MemKeeper {
         ensures call { IsCall result self.old self.new }
     {
         self.begin()?;
-        match attr_of(&self.store.attrs, inode, name_id) {
+        settle(&mut self.store, self.alloc)?;
+        match attr_in(&self.store.maps, inode, name_id) {
             Ok(found) => Ok(found),
             Err(_) => Err(KeeperFault::Memory),
         }
@@ -248,14 +279,8 @@ impl Keeper for MemKeeper {
         ensures call { IsCall result self.old self.new }
     {
         self.begin()?;
-        match attrs_of(
-            self.alloc,
-            &self.store.attrs,
-            &self.store.names,
-            inode,
-            after,
-            max,
-        ) {
+        settle(&mut self.store, self.alloc)?;
+        match attrs_in(self.alloc, &self.store.maps, inode, after, max) {
             Ok(found) => Ok(found),
             Err(_) => Err(KeeperFault::Memory),
         }
@@ -268,7 +293,11 @@ impl Keeper for MemKeeper {
         ensures call { IsCall result self.old self.new }
     {
         self.begin()?;
-        Ok(slot_of(&self.store.slots, inode, blockno))
+        settle(&mut self.store, self.alloc)?;
+        match slot_in(self.alloc, &self.store.maps, inode, blockno) {
+            Ok(found) => Ok(found),
+            Err(_) => Err(KeeperFault::Memory),
+        }
     }
 
     fn slots(&mut self, from: u32, max: u32) -> Result<SlotList, KeeperFault>
@@ -280,7 +309,8 @@ impl Keeper for MemKeeper {
         ensures call { IsCall result self.old self.new }
     {
         self.begin()?;
-        match slots_of(self.alloc, &self.store.slots, from, max) {
+        settle(&mut self.store, self.alloc)?;
+        match slots_in(self.alloc, &self.store.maps, from, max) {
             Ok(found) => Ok(found),
             Err(_) => Err(KeeperFault::Memory),
         }
@@ -296,8 +326,8 @@ impl Keeper for MemKeeper {
         ensures call { IsCall result self.old self.new }
     {
         self.begin()?;
-        settle(&mut self.store.inode_blocks, self.alloc)?;
-        match page_of_store(self.alloc, &self.store, table, after, max) {
+        settle(&mut self.store, self.alloc)?;
+        match page_in(self.alloc, &self.store.maps, table, after, max) {
             Ok(found) => Ok(found),
             Err(_) => Err(KeeperFault::Memory),
         }

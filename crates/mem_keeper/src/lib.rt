@@ -7,11 +7,10 @@ mod index;
 mod indexes;
 mod keeper;
 mod keyed;
+mod lists;
 mod look_ups;
 mod memory;
 mod pages;
-mod sorted;
-mod spots;
 mod store;
 mod table;
 

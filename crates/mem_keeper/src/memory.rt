@@ -23,18 +23,16 @@ pub struct MemKeeper {
 
 impl Model for MemKeeper {
     ghost use Rattle.std.specs.Prelude.{IsTrue};
-    ghost use Rattle.s3_rows.specs.Tables.{IsOrdered, by_spot};
-    ghost use Rattle.mem_keeper.specs.Table.{IsTable};
     ghost use Rattle.s3_rows.specs.Ranges.{HasRanges};
     ghost use Rattle.mem_keeper.specs.Memory.{KeeperState};
-    ghost use Rattle.mem_keeper.specs.Store.{tables_of};
+    ghost use Rattle.mem_keeper.specs.Store.{IsMaps, tables_of};
     ghost use Rattle.mem_keeper.specs.Indexes.{Stand};
 
     ghost Value = { KeeperState };
 
     ghost view = { λ k. record { told = record { tables = tables_of k.store; commits = k.commits }; calls = k.calls; fails = k.fails; faults = k.faults } };
 
-    ghost invariant = { λ k. record { ordered : IsOrdered (tables_of k.store); spots : IsTable by_spot k.store.inode_blocks.map.entries; ranges : HasRanges (tables_of k.store); standing : IsTrue k.indexes.stand → Stand k.indexes (tables_of k.store) } };
+    ghost invariant = { λ k. record { maps : IsMaps k.store.maps; ranges : HasRanges (tables_of k.store); standing : IsTrue k.indexes.stand → Stand k.indexes (tables_of k.store) } };
 }
 
 impl MemKeeper {
@@ -60,14 +58,13 @@ impl MemKeeper {
         }
     }
 
-    /// A keeper of these tables that never fails. It keeps the lists as they are, and takes no memory.
+    /// A keeper of these tables that never fails. It keeps the lists as they are until the next call, and takes no memory.
     pub fn of(alloc: Global, tables: Tables) -> Self
         ensures { result ≡ record { told = record { tables = tables; commits = 0 }; calls = 0; fails = []; faults = 0 } }
     {
-        let store = Store::of(alloc, tables);
-        tell_all_ranges(&store);
+        tell_all_ranges(&tables);
         MemKeeper {
-            store,
+            store: Store::of(alloc, tables),
             indexes: Indexes::new(alloc),
             commits: 0,
             calls: 0,

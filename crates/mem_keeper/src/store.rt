@@ -1,37 +1,47 @@
-//! The tables as vectors of sorted rows.
-ghost use Rattle.std.specs.Prelude.{◌≡◌, ℕ, ◌+◌, [], IfNone};
+//! The tables as maps of rows by their keys.
+ghost use Rattle.std.specs.Prelude.{◌≡◌, None, IfOk, OnOk, All};
 ghost use Rattle.std.specs.Option.{ForSome};
 ghost use Rattle.s3_rows.specs.Rows.{IsParameters};
-ghost use Rattle.s3_rows.specs.Tables.{IsOrdered, no_tables};
+ghost use Rattle.s3_rows.specs.Tables.{no_tables};
 ghost use Rattle.s3_rows.specs.Batches.{after_change};
 ghost use Rattle.s3_rows.specs.Ranges.{HasRanges};
-ghost use Rattle.s3_rows.specs.Keyed.{pair_cmp};
-ghost use Rattle.s3_rows.specs.Tables.{by_spot};
-ghost use Rattle.mem_keeper.specs.Store.{tables_of, spots_of, IsSettled, HasPlace, HasRoom, IsFitChange};
-ghost use Rattle.mem_keeper.specs.Table.{IsTable, KeepsPlaces};
+ghost use Rattle.mem_keeper.specs.Store.{IsMaps, KeepsAll, HasPlace, IsFitChange, tables_of, tables_in};
 
 use crate::keyed::Keyed;
-use crate::sorted::{put_row, remove_row, replace_row, take_row, tell_ranges};
-use crate::spots::{Spots, put_spot, take_spot, tell_spots};
+use crate::table::{drop_place, hold_place, put_in, put_row, remove_row, table_of, take_from};
 use s3_rows::{
     AttrRow, BlockRow, Change, ContentRow, InodeBlockRow, InodeRow, NameRow, ObjectRow, Params,
     SlotRow, Tables, TargetRow,
 };
-use std::alloc::Global;
+use std::alloc::{AllocError, Global};
+use std::collections::BTreeMap;
 
-/// The parameters and the rows, those of each table in the order of their keys.
+/// The parameters, and the rows of each table by their keys.
+#[derive(Debug, Drop)]
+pub(crate) struct Maps {
+    pub params: Option<Params>,
+    pub inodes: BTreeMap<u64, Option<InodeRow>>,
+    pub names: NameMap,
+    pub contents: BTreeMap<(u64, u64), Option<ContentRow>>,
+    pub inode_blocks: BTreeMap<(u64, u64), Option<InodeBlockRow>>,
+    pub blocks: BTreeMap<u64, Option<BlockRow>>,
+    pub objects: BTreeMap<u64, Option<ObjectRow>>,
+    pub targets: BTreeMap<u64, Option<TargetRow>>,
+    pub attrs: BTreeMap<(u64, u64), Option<AttrRow>>,
+    pub slots: BTreeMap<u32, Option<SlotRow>>,
+}
+
+/// The names by their ids.
+#[derive(Debug, Drop)]
+pub(crate) struct NameMap {
+    pub map: BTreeMap<u64, Option<NameRow>>,
+}
+
+/// The tables that were given, until a call needs the maps, and then the maps.
 #[derive(Debug, Drop)]
 pub(crate) struct Store {
-    pub params: Option<Params>,
-    pub inodes: Vec<InodeRow>,
-    pub names: Vec<NameRow>,
-    pub contents: Vec<ContentRow>,
-    pub inode_blocks: Spots,
-    pub blocks: Vec<BlockRow>,
-    pub objects: Vec<ObjectRow>,
-    pub targets: Vec<TargetRow>,
-    pub attrs: Vec<AttrRow>,
-    pub slots: Vec<SlotRow>,
+    pub given: Option<Tables>,
+    pub maps: Maps,
 }
 
 /// Rows of names and blocks that a batch has replaced or deleted.
@@ -41,84 +51,119 @@ pub(crate) struct Gone {
     pub blocks: Vec<BlockRow>,
 }
 
+impl Maps {
+    /// Nothing at all, which takes no memory.
+    fn new(alloc: Global) -> Self
+        ensures tables { tables_in result ≡ no_tables }
+        ensures maps { IsMaps result }
+    {
+        Maps {
+            params: None,
+            inodes: BTreeMap::new(alloc),
+            names: NameMap {
+                map: BTreeMap::new(alloc),
+            },
+            contents: BTreeMap::new(alloc),
+            inode_blocks: BTreeMap::new(alloc),
+            blocks: BTreeMap::new(alloc),
+            objects: BTreeMap::new(alloc),
+            targets: BTreeMap::new(alloc),
+            attrs: BTreeMap::new(alloc),
+            slots: BTreeMap::new(alloc),
+        }
+    }
+}
+
 impl Store {
     /// Nothing at all, which takes no memory.
     pub(crate) fn new(alloc: Global) -> Self
         ensures tables { tables_of result ≡ no_tables }
-        ensures spots { IsTable by_spot result.inode_blocks.map.entries }
+        ensures maps { IsMaps result.maps }
     {
         Store {
-            params: None,
-            inodes: Vec::new(alloc),
-            names: Vec::new(alloc),
-            contents: Vec::new(alloc),
-            inode_blocks: Spots::new(alloc),
-            blocks: Vec::new(alloc),
-            objects: Vec::new(alloc),
-            targets: Vec::new(alloc),
-            attrs: Vec::new(alloc),
-            slots: Vec::new(alloc),
+            given: None,
+            maps: Maps::new(alloc),
         }
     }
 
     /// These tables, kept as they are.
     pub(crate) fn of(alloc: Global, tables: Tables) -> Self
         ensures tables { tables_of result ≡ tables }
-        ensures ordered { IsOrdered (tables_of result) }
-        ensures spots { IsTable by_spot result.inode_blocks.map.entries }
-        ensures given { IfNone result.inode_blocks.given (spots_of result.inode_blocks ≡ []) }
+        ensures maps { IsMaps result.maps }
     {
-        let Tables {
-            params,
-            inodes,
-            names,
-            contents,
-            inode_blocks,
-            blocks,
-            objects,
-            targets,
-            attrs,
-            slots,
-        } = tables;
         Store {
-            params: Some(params),
-            inodes: inodes.into_vec(),
-            names: names.into_vec(),
-            contents: contents.into_vec(),
-            inode_blocks: Spots::of(alloc, inode_blocks.into_vec()),
-            blocks: blocks.into_vec(),
-            objects: objects.into_vec(),
-            targets: targets.into_vec(),
-            attrs: attrs.into_vec(),
-            slots: slots.into_vec(),
+            given: Some(tables),
+            maps: Maps::new(alloc),
         }
     }
 }
 
-// Says that parameters keep the ranges of their type.
-fn tell_params(params: &Option<Params>)
-    ensures { ForSome params.now IsParameters }
+/// Maps of copies of all rows.
+fn maps_of(alloc: Global, tables: &Tables) -> Result<Maps, AllocError>
+    ensures tables { IfOk result (λ m. tables_in m ≡ tables.now) }
+    ensures maps { IfOk result IsMaps }
 {
-    if let Some(params) = params {
-        let _revision = params.revision;
+    Ok(Maps {
+        params: Some(tables.params),
+        inodes: table_of(alloc, tables.inodes.as_slice())?,
+        names: NameMap {
+            map: table_of(alloc, tables.names.as_slice())?,
+        },
+        contents: table_of(alloc, tables.contents.as_slice())?,
+        inode_blocks: table_of(alloc, tables.inode_blocks.as_slice())?,
+        blocks: table_of(alloc, tables.blocks.as_slice())?,
+        objects: table_of(alloc, tables.objects.as_slice())?,
+        targets: table_of(alloc, tables.targets.as_slice())?,
+        attrs: table_of(alloc, tables.attrs.as_slice())?,
+        slots: table_of(alloc, tables.slots.as_slice())?,
+    })
+}
+
+/// Makes the maps, where only the tables that were given stand.
+pub(crate) fn settle(store: &mut Store, alloc: Global) -> Result<(), AllocError>
+    requires { IsMaps store.old.maps }
+    ensures same { tables_of store.new ≡ tables_of store.old }
+    ensures maps { IsMaps store.new.maps }
+    ensures given { OnOk result (store.new.given ≡ None) }
+    ensures tables { OnOk result (tables_in store.new.maps ≡ tables_of store.old) }
+{
+    if let Some(tables) = &store.given {
+        store.maps = maps_of(alloc, tables)?;
+    }
+    store.given = None;
+    Ok(())
+}
+
+// Says that rows keep the ranges of their types.
+fn tell_ranges<R: Keyed>(rows: &[R])
+    ensures { All R.fits rows.now }
+{
+    for row in rows {
+        let _ = row.key();
     }
 }
 
-/// Says that all rows keep the ranges of their types.
-pub(crate) fn tell_all_ranges(store: &Store)
-    requires { IfNone store.now.inode_blocks.given (spots_of store.now.inode_blocks ≡ []) }
-    ensures { HasRanges (tables_of store.now) }
+// Says that parameters keep the ranges of their type.
+fn tell_params(params: &Params)
+    ensures { IsParameters params.now }
 {
-    tell_params(&store.params);
-    tell_ranges(&store.inodes);
-    tell_ranges(&store.names);
-    tell_ranges(&store.contents);
-    tell_spots(&store.inode_blocks);
-    tell_ranges(&store.blocks);
-    tell_ranges(&store.objects);
-    tell_ranges(&store.targets);
-    tell_ranges(&store.attrs);
-    tell_ranges(&store.slots);
+    let _revision = params.revision;
+}
+
+/// Says that all rows keep the ranges of their types.
+pub(crate) fn tell_all_ranges(tables: &Tables)
+    ensures { HasRanges tables.now }
+{
+    tell_params(&tables.params);
+    tell_ranges(tables.inodes.as_slice());
+    tell_ranges(tables.names.as_slice());
+    tell_ranges(tables.contents.as_slice());
+    tell_ranges(tables.inode_blocks.as_slice());
+    tell_ranges(tables.blocks.as_slice());
+    tell_ranges(tables.objects.as_slice());
+    tell_ranges(tables.targets.as_slice());
+    tell_ranges(tables.attrs.as_slice());
+    tell_ranges(tables.slots.as_slice());
 }
 
 /// Adds a row that a change took out to the others, where there is room.
@@ -129,43 +174,95 @@ fn keep<R: Keyed>(gone: &mut Vec<R>, row: Option<R>) {
 }
 
 /// Makes a change. Rows of names and blocks that go are added to `gone`.
-pub(crate) fn apply_change(store: &mut Store, gone: &mut Gone, change: Change)
-    requires ordered { IsOrdered (tables_of store.old) }
-    requires settled { IsSettled store.old.inode_blocks }
-    requires place { HasPlace store.old.inode_blocks change }
-    requires room { HasRoom 1 store.old }
-    ensures tables { tables_of store.new ≡ after_change change (tables_of store.old) }
-    ensures room { (n : ℕ) → HasRoom (n + 1) store.old → HasRoom n store.new }
-    ensures settled { IsSettled store.new.inode_blocks }
-    ensures kept { KeepsPlaces pair_cmp store.old.inode_blocks.map store.new.inode_blocks.map }
+pub(crate) fn apply_change(maps: &mut Maps, gone: &mut Gone, change: Change)
+    requires maps { IsMaps maps.old }
+    requires place { HasPlace maps.old change }
+    ensures tables { tables_in maps.new ≡ after_change change (tables_in maps.old) }
+    ensures maps { IsMaps maps.new }
+    ensures kept { KeepsAll maps.old maps.new }
     ensures fits { IsFitChange change }
 {
     match change {
-        Change::PutInode(row) => put_row(&mut store.inodes, row),
-        Change::DeleteInode(id) => remove_row(&mut store.inodes, id),
-        Change::PutName(row) => keep(&mut gone.names, replace_row(&mut store.names, row)),
-        Change::DeleteName(id) => keep(&mut gone.names, take_row(&mut store.names, id)),
-        Change::PutContent(row) => put_row(&mut store.contents, row),
+        Change::PutInode(row) => put_row(&mut maps.inodes, row),
+        Change::DeleteInode(id) => remove_row(&mut maps.inodes, id),
+        Change::PutName(row) => keep(&mut gone.names, put_in(&mut maps.names.map, row)),
+        Change::DeleteName(id) => keep(&mut gone.names, take_from(&mut maps.names.map, id)),
+        Change::PutContent(row) => put_row(&mut maps.contents, row),
         Change::DeleteContent(parent, name_id) => {
-            remove_row(&mut store.contents, (parent, name_id))
+            remove_row(&mut maps.contents, (parent, name_id))
         }
-        Change::PutInodeBlock(row) => put_spot(&mut store.inode_blocks, row),
+        Change::PutInodeBlock(row) => put_row(&mut maps.inode_blocks, row),
         Change::DeleteInodeBlock(inode, blockno) => {
-            take_spot(&mut store.inode_blocks, inode, blockno)
+            remove_row(&mut maps.inode_blocks, (inode, blockno))
         }
-        Change::PutBlock(row) => keep(&mut gone.blocks, replace_row(&mut store.blocks, row)),
-        Change::DeleteBlock(id) => keep(&mut gone.blocks, take_row(&mut store.blocks, id)),
-        Change::PutObject(row) => put_row(&mut store.objects, row),
-        Change::DeleteObject(id) => remove_row(&mut store.objects, id),
-        Change::PutTarget(row) => put_row(&mut store.targets, row),
-        Change::DeleteTarget(inode) => remove_row(&mut store.targets, inode),
-        Change::PutAttr(row) => put_row(&mut store.attrs, row),
-        Change::DeleteAttr(inode, name_id) => remove_row(&mut store.attrs, (inode, name_id)),
-        Change::PutSlot(row) => put_row(&mut store.slots, row),
-        Change::DeleteSlot(slot) => remove_row(&mut store.slots, slot),
+        Change::PutBlock(row) => keep(&mut gone.blocks, put_in(&mut maps.blocks, row)),
+        Change::DeleteBlock(id) => keep(&mut gone.blocks, take_from(&mut maps.blocks, id)),
+        Change::PutObject(row) => put_row(&mut maps.objects, row),
+        Change::DeleteObject(id) => remove_row(&mut maps.objects, id),
+        Change::PutTarget(row) => put_row(&mut maps.targets, row),
+        Change::DeleteTarget(inode) => remove_row(&mut maps.targets, inode),
+        Change::PutAttr(row) => put_row(&mut maps.attrs, row),
+        Change::DeleteAttr(inode, name_id) => remove_row(&mut maps.attrs, (inode, name_id)),
+        Change::PutSlot(row) => put_row(&mut maps.slots, row),
+        Change::DeleteSlot(slot) => remove_row(&mut maps.slots, slot),
         Change::SetParams(params) => {
             let _revision = params.revision;
-            store.params = Some(params)
+            maps.params = Some(params)
         }
+    }
+}
+
+/// Holds the place of the row that the change puts.
+pub(crate) fn hold_change(maps: &mut Maps, change: &Change) -> Result<(), AllocError>
+    requires { IsMaps maps.old }
+    ensures maps { IsMaps maps.new }
+    ensures tables { tables_in maps.new ≡ tables_in maps.old }
+    ensures held { OnOk result (HasPlace maps.new change.now) }
+    ensures kept { KeepsAll maps.old maps.new }
+{
+    match change {
+        Change::PutInode(row) => hold_place(&mut maps.inodes, row.key()),
+        Change::PutName(row) => hold_place(&mut maps.names.map, row.key()),
+        Change::PutContent(row) => hold_place(&mut maps.contents, row.key()),
+        Change::PutInodeBlock(row) => hold_place(&mut maps.inode_blocks, row.key()),
+        Change::PutBlock(row) => hold_place(&mut maps.blocks, row.key()),
+        Change::PutObject(row) => hold_place(&mut maps.objects, row.key()),
+        Change::PutTarget(row) => hold_place(&mut maps.targets, row.key()),
+        Change::PutAttr(row) => hold_place(&mut maps.attrs, row.key()),
+        Change::PutSlot(row) => hold_place(&mut maps.slots, row.key()),
+        _ => Ok(()),
+    }
+}
+
+/// Lets go of the place that the change names, where it has no row.
+pub(crate) fn drop_change(maps: &mut Maps, change: &Change)
+    requires { IsMaps maps.old }
+    ensures maps { IsMaps maps.new }
+    ensures tables { tables_in maps.new ≡ tables_in maps.old }
+{
+    match change {
+        Change::PutInode(row) => drop_place(&mut maps.inodes, row.key()),
+        Change::DeleteInode(id) => drop_place(&mut maps.inodes, *id),
+        Change::PutName(row) => drop_place(&mut maps.names.map, row.key()),
+        Change::DeleteName(id) => drop_place(&mut maps.names.map, *id),
+        Change::PutContent(row) => drop_place(&mut maps.contents, row.key()),
+        Change::DeleteContent(parent, name_id) => {
+            drop_place(&mut maps.contents, (*parent, *name_id))
+        }
+        Change::PutInodeBlock(row) => drop_place(&mut maps.inode_blocks, row.key()),
+        Change::DeleteInodeBlock(inode, blockno) => {
+            drop_place(&mut maps.inode_blocks, (*inode, *blockno))
+        }
+        Change::PutBlock(row) => drop_place(&mut maps.blocks, row.key()),
+        Change::DeleteBlock(id) => drop_place(&mut maps.blocks, *id),
+        Change::PutObject(row) => drop_place(&mut maps.objects, row.key()),
+        Change::DeleteObject(id) => drop_place(&mut maps.objects, *id),
+        Change::PutTarget(row) => drop_place(&mut maps.targets, row.key()),
+        Change::DeleteTarget(inode) => drop_place(&mut maps.targets, *inode),
+        Change::PutAttr(row) => drop_place(&mut maps.attrs, row.key()),
+        Change::DeleteAttr(inode, name_id) => drop_place(&mut maps.attrs, (*inode, *name_id)),
+        Change::PutSlot(row) => drop_place(&mut maps.slots, row.key()),
+        Change::DeleteSlot(slot) => drop_place(&mut maps.slots, *slot),
+        Change::SetParams(_) => {}
     }
 }

@@ -1,5 +1,5 @@
 //! Rows by their keys in a map. A key may be held for a row to come, so that a put of it takes no memory.
-ghost use Rattle.std.specs.Prelude.{◌≡◌, ◌++◌, ◌+◌, ◌≤◌, [], filter, take, IsTrue, IfOk, OnOk, IfSome, IsSome, Option, option_map};
+ghost use Rattle.std.specs.Prelude.{◌≡◌, ◌++◌, ◌+◌, ◌≤◌, [], filter, take, Bool, IsTrue, IfOk, OnOk, IfSome, IsSome, Option, option_map};
 ghost use Rattle.std.specs.BTreeMap.{get};
 ghost use Rattle.std.specs.BTreeMap.Range.{IsLeBy, IsLtBy, range_contains};
 ghost use Rattle.std.specs.Range.Bound.{IsForward};
@@ -59,6 +59,18 @@ pub(crate) fn put_in<R: Keyed>(table: &mut BTreeMap<R::Key, Option<R>>, row: R) 
     }
 }
 
+/// Puts a row at its key, which is there.
+pub(crate) fn put_row<R: Keyed>(table: &mut BTreeMap<R::Key, Option<R>>, row: R)
+    requires table { IsTable (record { compare = R.Key.cmp; key = R.key }) table.old.entries }
+    requires held { IsSome (get R.Key.cmp table.old (R.key row)) }
+    ensures table { IsTable (record { compare = R.Key.cmp; key = R.key }) table.new.entries }
+    ensures rows { rows_of table.new.entries ≡ put (record { compare = R.Key.cmp; key = R.key }) row (rows_of table.old.entries) }
+    ensures fits { R.fits row }
+    ensures kept { KeepsPlaces R.Key.cmp table.old table.new }
+{
+    let _ = put_in(table, row);
+}
+
 /// Takes the row at a key and leaves the key.
 pub(crate) fn take_from<R: Keyed>(table: &mut BTreeMap<R::Key, Option<R>>, key: R::Key) -> Option<R>
     requires { IsTable (record { compare = R.Key.cmp; key = R.key }) table.old.entries }
@@ -73,6 +85,16 @@ pub(crate) fn take_from<R: Keyed>(table: &mut BTreeMap<R::Key, Option<R>>, key: 
         Ok(Some(old)) => old,
         _ => None,
     }
+}
+
+/// Takes the row at a key away and leaves the key.
+pub(crate) fn remove_row<R: Keyed>(table: &mut BTreeMap<R::Key, Option<R>>, key: R::Key)
+    requires { IsTable (record { compare = R.Key.cmp; key = R.key }) table.old.entries }
+    ensures table { IsTable (record { compare = R.Key.cmp; key = R.key }) table.new.entries }
+    ensures rows { rows_of table.new.entries ≡ without (record { compare = R.Key.cmp; key = R.key }) key (rows_of table.old.entries) }
+    ensures kept { KeepsPlaces R.Key.cmp table.old table.new }
+{
+    let _ = take_from(table, key);
 }
 
 /// Lets go of a key that has no row.
@@ -118,6 +140,50 @@ pub(crate) fn rows_within<R: Keyed>(
             Some((_, held)) => copy_held(&mut rows, held)?,
             None => break,
         }
+    }
+    Ok(rows)
+}
+
+/// A test of rows.
+pub(crate) trait Sought<R> {
+    ghost passes: { Self → R → Bool };
+
+    fn passes(&self, row: &R) -> bool
+        ensures { result ≡ passes self.now row.now };
+}
+
+// Adds a copy of a row that is there and passes the test.
+fn copy_sought<R: Keyed, S: Sought<R>>(
+    rows: &mut Vec<R>,
+    held: &Option<R>,
+    sought: &S,
+) -> Result<(), AllocError>
+    ensures { OnOk result (rows.new.items ≡ rows.old.items ++ filter (S.passes sought.now) (cons_option held.now [])) }
+{
+    if let Some(row) = held {
+        if sought.passes(row) {
+            rows.push(row.copy()?)?;
+        }
+    }
+    Ok(())
+}
+
+/// Copies of all rows that pass a test and whose keys lie between two bounds.
+pub(crate) fn rows_passing<R: Keyed, S: Sought<R>>(
+    alloc: Global,
+    table: &BTreeMap<R::Key, Option<R>>,
+    low: Bound<R::Key>,
+    high: Bound<R::Key>,
+    sought: &S,
+) -> Result<Vec<R>, AllocError>
+    requires table { IsTable (record { compare = R.Key.cmp; key = R.key }) table.now.entries }
+    requires forward { IsForward (IsLeBy R.Key.cmp) (IsLtBy R.Key.cmp) low high }
+    ensures { IfOk result (λ v. v.items ≡ filter (S.passes sought.now) (filter (λ r. range_contains R.Key.cmp low high (R.key r)) (rows_of table.now.entries))) }
+{
+    let mut rows = Vec::new(alloc);
+    let mut entries = table.range((low, high));
+    while let Some((_, held)) = entries.next() {
+        copy_sought(&mut rows, held, sought)?;
     }
     Ok(rows)
 }

@@ -1,5 +1,4 @@
 pub mod ListingLeast
-pub mod ListingNames
 pub mod ListingOrder
 pub mod ListingPages
 pub mod ListingPut

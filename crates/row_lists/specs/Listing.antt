@@ -1,7 +1,5 @@
 -- Items with the bytes of their names, and the least of them.
-use Rattle.std.specs.Prelude.{◌≤◌, ℕ, suc, nat_lt, length, IsTrue, List, [], ◌∷◌, Option, None, Some, option_map, unwrap_or, take, if◌then◌else◌}
-use Rattle.std.specs.Bool.{IsFalse}
-use Rattle.std.specs.List.Sorted.{IsPartitionPoint}
+use Rattle.std.specs.Prelude.{ℕ, suc, List, [], ◌∷◌, Option, None, Some, option_map, unwrap_or, take, if◌then◌else◌}
 use Rattle.std.specs.Ordering.{is_gt, nat_cmp, ordering_then}
 use Rattle.std.specs.declared.cmp.Ordering.TheVariants.{Less, Equal, Greater}
 use Rattle.s3_rows.specs.Rows.{Content, Name}
@@ -31,10 +29,6 @@ put_behind o r (x ∷ xs) = elim (o.compare (o.key r) (o.key x)) [ Less ↦ r �
 abbrev pub kept : {K T : Type 0} → Order K T → K → ℕ → Option T → List T → List T
 kept o after max None items = items
 kept o after max (Some x) items = if is_past o after x then take max (put_behind o x items) else items
-
--- the numbers of the names before the place are lower, and the others are not
-abbrev pub IsPlaceOf : ℕ → List Name → ℕ → Type 0
-IsPlaceOf id names place = (place ≤ length names) × IsPartitionPoint (λ r. IsTrue (nat_lt r.id id)) (λ r. IsFalse (nat_lt r.id id)) names place
 
 -- entries by parent and then by the bytes of their names, which are none where a name has no row
 abbrev pub by_place : List Name → Order (ℕ × List ℕ) Content

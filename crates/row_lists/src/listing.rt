@@ -11,7 +11,7 @@ mod named;
 mod pages;
 
 pub use holder::holder_of_inode;
-pub use named::{attrs_of, entries_of, name_row};
+pub use named::{NameTable, attrs_of, entries_of};
 pub use pages::{
     page_of_attrs, page_of_blocks, page_of_contents, page_of_inode_blocks, page_of_inodes,
     page_of_names, page_of_objects, page_of_slots, page_of_targets,

@@ -1,19 +1,23 @@
 //! Which entry names an inode.
-ghost use Rattle.std.specs.Prelude.{◌≡◌, ◌==◌, [], option_map, unwrap_or, IsTrue};
+ghost use Rattle.std.specs.Prelude.{◌≡◌, ◌==◌, [], option_map, unwrap_or};
 ghost use Rattle.std.specs.Ordering.{is_gt};
-ghost use Rattle.s3_rows.specs.Keyed.{rises, row_at};
+ghost use Rattle.s3_rows.specs.Keyed.{row_at};
 ghost use Rattle.s3_rows.specs.Tables.{Tables, by_name};
 ghost use Rattle.s3_rows.specs.Selections.{holder_of};
 ghost use Rattle.row_lists.specs.Listing.{by_place, lesser};
 
-use crate::listing::named::name_row;
-use s3_rows::{ContentRow, NameRow};
+use crate::listing::named::NameTable;
+use s3_rows::ContentRow;
 use std::cmp::Ordering;
 
 /// An entry that names the inode: the least by its parent and by the bytes of its name.
-pub fn holder_of_inode(contents: &[ContentRow], names: &[NameRow], inode: u64) -> Option<ContentRow>
-    requires { IsTrue (rises by_name names.now) }
-    ensures { (t : Tables) → t.contents ≡ contents.now → t.names ≡ names.now → result ≡ holder_of t inode }
+pub fn holder_of_inode<N: NameTable>(
+    contents: &[ContentRow],
+    names: &N,
+    inode: u64,
+) -> Option<ContentRow>
+    requires { N.stands names.now }
+    ensures { (t : Tables) → t.contents ≡ contents.now → t.names ≡ N.rows names.now → result ≡ holder_of t inode }
 {
     let mut holder = None;
     let mut left = contents.len();
@@ -28,9 +32,9 @@ pub fn holder_of_inode(contents: &[ContentRow], names: &[NameRow], inode: u64) -
 }
 
 /// The lesser of an entry and one behind it, and of two at one place the first.
-fn lesser_of(names: &[NameRow], row: ContentRow, other: Option<ContentRow>) -> ContentRow
-    requires { IsTrue (rises by_name names.now) }
-    ensures { result ≡ lesser (by_place names.now) row other }
+fn lesser_of<N: NameTable>(names: &N, row: ContentRow, other: Option<ContentRow>) -> ContentRow
+    requires { N.stands names.now }
+    ensures { result ≡ lesser (by_place (N.rows names.now)) row other }
 {
     match other {
         Some(other) => if comes_after(names, &row, &other) {
@@ -43,9 +47,9 @@ fn lesser_of(names: &[NameRow], row: ContentRow, other: Option<ContentRow>) -> C
 }
 
 /// Whether an entry comes after another by its parent and by the bytes of its name.
-fn comes_after(names: &[NameRow], row: &ContentRow, other: &ContentRow) -> bool
-    requires { IsTrue (rises by_name names.now) }
-    ensures { let o = by_place names.now in result ≡ is_gt (o.compare (o.key row.now) (o.key other.now)) }
+fn comes_after<N: NameTable>(names: &N, row: &ContentRow, other: &ContentRow) -> bool
+    requires { N.stands names.now }
+    ensures { let o = by_place (N.rows names.now) in result ≡ is_gt (o.compare (o.key row.now) (o.key other.now)) }
 {
     match row.parent.cmp(&other.parent) {
         Ordering::Less => false,
@@ -57,11 +61,11 @@ fn comes_after(names: &[NameRow], row: &ContentRow, other: &ContentRow) -> bool
 }
 
 /// The bytes of a name, none where it has no row.
-fn bytes_of(names: &[NameRow], id: u64) -> &[u8]
-    requires { IsTrue (rises by_name names.now) }
-    ensures { result.now ≡ unwrap_or (option_map (λ r. r.name) (row_at by_name id names.now)) [] }
+fn bytes_of<N: NameTable>(names: &N, id: u64) -> &[u8]
+    requires { N.stands names.now }
+    ensures { result.now ≡ unwrap_or (option_map (λ r. r.name) (row_at by_name id (N.rows names.now))) [] }
 {
-    match name_row(names, id) {
+    match names.name_row(id) {
         Some(row) => row.name.as_slice(),
         None => &[],
     }

@@ -2,13 +2,14 @@
 ghost use Rattle.std.specs.Prelude.{◌≡◌, ◌≤◌, ◌&&◌, ◌==◌, nat_lt, ℕ, List, length, option_copied, take, filter, filter_map, is_some, slice_index_or, IsTrue, IfOk, IfSome, OnOk};
 ghost use Rattle.std.specs.List.{list_all};
 ghost use Rattle.std.specs.Ordering.{is_gt};
+ghost use Rattle.s3_rows.specs.Rows.{Name};
 ghost use Rattle.s3_rows.specs.declared.lists.NamedAttr.{NamedAttr};
 ghost use Rattle.s3_rows.specs.declared.lists.NamedEntry.{NamedEntry};
 ghost use Rattle.s3_rows.specs.Keyed.{has_key, rises, row_at, rows_past, sorted_by};
 ghost use Rattle.s3_rows.specs.Tables.{Tables, by_attr, by_entry, by_name};
 ghost use Rattle.s3_rows.specs.Selections.{attrs_listed, by_attr_name, by_entry_name, bytes_cmp, entries_listed};
 ghost use Rattle.s3_rows.specs.Told.{has_short_name, is_page};
-ghost use Rattle.row_lists.specs.Listing.{IsPlaceOf, by_bytes, kept, place_in, put_behind, with_name};
+ghost use Rattle.row_lists.specs.Listing.{by_bytes, kept, place_in, put_behind, with_name};
 
 use s3_base::{ByteList, Sequence};
 use s3_rows::{AttrRow, ContentRow, EntryList, NameRow, NamedAttr, NamedAttrList, NamedEntry};
@@ -16,37 +17,43 @@ use std::alloc::{AllocError, Global};
 
 /// The first `max` entries of a directory whose names come after `after`, in the order of their names. An entry whose name
 /// has no row is left out, and of several of the same bytes only the one with the least name id is given.
-pub fn entries_of(
+pub fn entries_of<N: NameTable>(
     alloc: Global,
     contents: &[ContentRow],
-    names: &[NameRow],
+    names: &N,
     parent: u64,
     after: &ByteList,
     max: u32,
 ) -> Result<EntryList, AllocError>
     requires contents { IsTrue (rises by_entry contents.now) }
-    requires names { IsTrue (rises by_name names.now) }
-    ensures rows { IfOk result (λ l. (t : Tables) → t.contents ≡ contents.now → t.names ≡ names.now → l ≡ entries_listed t parent after.now max) }
+    requires names { N.stands names.now }
+    ensures rows { IfOk result (λ l. (t : Tables) → t.contents ≡ contents.now → t.names ≡ N.rows names.now → l ≡ entries_listed t parent after.now max) }
     ensures page { IfOk result (λ l. IsTrue (is_page by_entry_name after.now max l && list_all (λ e. has_short_name e.name) l)) }
 {
-    least_named::<ContentRow, NamedEntry>(alloc, entries_under(contents, parent), names, after, max)
+    least_named::<ContentRow, NamedEntry, N>(
+        alloc,
+        entries_under(contents, parent),
+        names,
+        after,
+        max,
+    )
 }
 
 /// The first `max` attributes of an inode whose names come after `after`, with the same rules as `entries_of`.
-pub fn attrs_of(
+pub fn attrs_of<N: NameTable>(
     alloc: Global,
     attrs: &[AttrRow],
-    names: &[NameRow],
+    names: &N,
     inode: u64,
     after: &ByteList,
     max: u32,
 ) -> Result<NamedAttrList, AllocError>
     requires attrs { IsTrue (rises by_attr attrs.now) }
-    requires names { IsTrue (rises by_name names.now) }
-    ensures rows { IfOk result (λ l. (t : Tables) → t.attrs ≡ attrs.now → t.names ≡ names.now → l ≡ attrs_listed t inode after.now max) }
+    requires names { N.stands names.now }
+    ensures rows { IfOk result (λ l. (t : Tables) → t.attrs ≡ attrs.now → t.names ≡ N.rows names.now → l ≡ attrs_listed t inode after.now max) }
     ensures page { IfOk result (λ l. IsTrue (is_page by_attr_name after.now max l && list_all (λ a. has_short_name a.name) l)) }
 {
-    least_named::<AttrRow, NamedAttr>(alloc, attrs_under(attrs, inode), names, after, max)
+    least_named::<AttrRow, NamedAttr, N>(alloc, attrs_under(attrs, inode), names, after, max)
 }
 
 /// The entries of a directory.
@@ -87,31 +94,18 @@ fn attrs_under(attrs: &[AttrRow], inode: u64) -> &[AttrRow]
     &rest[..count]
 }
 
-/// The row of a name.
-pub fn name_row(names: &[NameRow], id: u64) -> Option<&NameRow>
-    requires { IsTrue (rises by_name names.now) }
-    ensures row { option_copied result ≡ row_at by_name id names.now }
-    ensures short { IfSome result (λ r. IsTrue (has_short_name r.now.name)) }
-{
-    let place = name_place(names, id);
-    if place == names.len() {
-        return None;
-    }
-    let row = &names[place];
-    let _name = &row.name;
-    if row.id == id { Some(row) } else { None }
-}
+/// Rows of names that are looked up by their numbers.
+pub trait NameTable {
+    /// The rows.
+    ghost rows: { Self → List Name };
 
-/// Where the names of this number and of greater ones begin.
-fn name_place(names: &[NameRow], id: u64) -> usize
-    requires { IsTrue (rises by_name names.now) }
-    ensures { IsPlaceOf id names.now result }
-{
-    names.partition_point(
-        |row: &NameRow| -> bool
-            ensures { result ≡ nat_lt row.now.id id }
-        { row.id < id },
-    )
+    /// Rows can be looked up.
+    ghost stands: { Self → Type 0 };
+
+    fn name_row(&self, id: u64) -> Option<&NameRow>
+        requires { stands self.now }
+        ensures row { option_copied result ≡ row_at by_name id (rows self.now) }
+        ensures short { IfSome result (λ r. IsTrue (has_short_name r.now.name)) };
 }
 
 /// An item that has the bytes of a name.
@@ -227,20 +221,20 @@ fn put_named<T: Named>(items: &mut Vec<T>, place: usize, item: T) -> Result<(), 
 }
 
 /// Keeps what the row and its name make among the `max` least items past a name.
-fn keep_named<R, T: NamedFrom<R>>(
+fn keep_named<R, T: NamedFrom<R>, N: NameTable>(
     items: &mut Vec<T>,
     row: &R,
-    names: &[NameRow],
+    names: &N,
     after: &ByteList,
     max: usize,
 ) -> Result<(), AllocError>
-    requires names { IsTrue (rises by_name names.now) }
+    requires names { N.stands names.now }
     requires rise { IsTrue (rises (by_bytes T.name_of) items.old.items) }
     requires few { length items.old.items ≤ max }
-    ensures kept { OnOk result (items.new.items ≡ kept (by_bytes T.name_of) after.now max (with_name T.id_of T.made names.now row.now) items.old.items) }
+    ensures kept { OnOk result (items.new.items ≡ kept (by_bytes T.name_of) after.now max (with_name T.id_of T.made (N.rows names.now) row.now) items.old.items) }
     ensures short { OnOk result (IsTrue (list_all (λ x. has_short_name (T.name_of x)) items.old.items) → IsTrue (list_all (λ x. has_short_name (T.name_of x)) items.new.items)) }
 {
-    let found = match name_row(names, T::name_id(row)) {
+    let found = match names.name_row(T::name_id(row)) {
         Some(found) => found,
         None => return Ok(()),
     };
@@ -257,15 +251,15 @@ fn keep_named<R, T: NamedFrom<R>>(
 }
 
 /// What the rows with the bytes of their names make: the `max` least past a name.
-fn least_named<R, T: NamedFrom<R>>(
+fn least_named<R, T: NamedFrom<R>, N: NameTable>(
     alloc: Global,
     rows: &[R],
-    names: &[NameRow],
+    names: &N,
     after: &ByteList,
     max: u32,
 ) -> Result<Sequence<T>, AllocError>
-    requires { IsTrue (rises by_name names.now) }
-    ensures least { IfOk result (λ l. l ≡ take max (rows_past (by_bytes T.name_of) after.now (sorted_by (by_bytes T.name_of) (filter_map (with_name T.id_of T.made names.now) rows.now)))) }
+    requires { N.stands names.now }
+    ensures least { IfOk result (λ l. l ≡ take max (rows_past (by_bytes T.name_of) after.now (sorted_by (by_bytes T.name_of) (filter_map (with_name T.id_of T.made (N.rows names.now)) rows.now)))) }
     ensures page { IfOk result (λ l. IsTrue (is_page (by_bytes T.name_of) after.now max l && list_all (λ x. has_short_name (T.name_of x)) l)) }
 {
     let mut items = Vec::new(alloc);

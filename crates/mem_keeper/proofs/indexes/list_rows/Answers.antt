@@ -1,16 +1,23 @@
-use Rattle.std.proofs.Common.{All, take_all, subst}
-use Rattle.std.proofs.lemmas.List.Elements.{recursion_from_All}
-use Rattle.mem_keeper.proofs.Least.{all_step, covers_all}
+use Rattle.std.proofs.Common.{◌≡◌, ◌∷◌, Some, None, sym, subst, ap, ◌∙◌}
+use Rattle.std.specs.List.{AllByRecursion}
+use Rattle.std.specs.Ordering.{nat_cmp}
 use Rattle.mem_keeper.specs.Index.{IsListed}
+use Rattle.mem_keeper.specs.Table.{rows_of}
+use Rattle.mem_keeper.proofs.Least.{covers_all}
+use Rattle.mem_keeper.proofs.Tabled.{all_held, if_held, entries_everywhere}
 use Rattle.mem_keeper.proofs.indexes.list_rows.Goals as goal
 
-pub loop-row-preserved : goal.loop-row-preserved
-loop-row-preserved g c =
-    all_step (λ r. IsListed c.loop-row.index (g.R.Indexed.bytes r) (g.R.Keyed.key r)) (λ r. IsListed c.add.new.self (g.R.Indexed.bytes r) (g.R.Keyed.key r)) c.args.rows.now c.loop-row.row-index c.row-item.result c.loop-row-test.true
-    (λ r h. c.add.ensures.kept _ _ h) c.loop-row.invariant c.row-item.is
-    (rw (← c.bytes.ensures, ← c.key.ensures.key) c.in_ok-add.ensures.added)
+pub loop-held-preserved : goal.loop-held-preserved
+loop-held-preserved g c = λ x stays all.
+    c.loop-held.invariant x (λ bytes id listed. stays bytes id (c.list_held.ensures.kept bytes id listed))
+    (subst (λ es. AllByRecursion (λ r. IsListed x (g.R.Indexed.bytes r) (g.R.Keyed.key r)) (rows_of es)) (sym c.in-Some.ensures.steps)
+    (all_held (λ r. IsListed x (g.R.Indexed.bytes r) (g.R.Keyed.key r)) c.in-Some.field-0-0.now c.in-Some.held.now c.next.new.self
+    (if_held (λ r. IsListed c.list_held.new.index (g.R.Indexed.bytes r) (g.R.Keyed.key r)) (λ r. IsListed x (g.R.Indexed.bytes r) (g.R.Keyed.key r)) (λ r listed. stays (g.R.Indexed.bytes r) (g.R.Keyed.key r) listed) c.in-Some.held.now c.in_ok-list_held.ensures.listed)
+    all))
 
 pub returns : goal.returns
 returns g c =
-    let all : All (λ r. IsListed c.loop-row.index (g.R.Indexed.bytes r) (g.R.Keyed.key r)) c.args.rows.now = subst (All (λ r. IsListed c.loop-row.index (g.R.Indexed.bytes r) (g.R.Keyed.key r))) (take_all c.loop-row.row-index c.args.rows.now c.loop-row-test.false) c.loop-row.invariant in
-    covers_all g.R.Keyed.key g.R.Indexed.bytes c.loop-row.index c.args.rows.now (recursion_from_All _ _ all)
+    covers_all g.R.Keyed.key g.R.Indexed.bytes c.loop-held.index (rows_of c.args.table.now.entries)
+    (subst (λ es. AllByRecursion (λ r. IsListed c.loop-held.index (g.R.Indexed.bytes r) (g.R.Keyed.key r)) (rows_of es)) (c.range-entries.ensures.between tt ∙ entries_everywhere nat_cmp c.args.table.now.entries)
+    (c.loop-held.invariant c.loop-held.index (λ bytes id listed. listed)
+    (subst (λ es. AllByRecursion (λ r. IsListed c.loop-held.index (g.R.Indexed.bytes r) (g.R.Keyed.key r)) (rows_of es)) (sym c.in_default.ensures.steps.0) tt)))

@@ -14,8 +14,8 @@ pub returns-then-place-max-clause-kept : goal.returns-then-place-max-clause-kept
 returns-then-place-max-clause-kept g c =
     let row : g.row.R.Denot = c.args.row.now in
     let name : List ℕ = c.in-Some.found.now.name in
-    let made : Some (g.T.NamedFrom.made row name) ≡ with_name g.T.NamedFrom.id_of g.T.NamedFrom.made c.args.names.now row =
-    ap (option_map (λ (n : Name). g.T.NamedFrom.made row n.name)) (c.in-Some.ensures.row ∙ ap (λ (i : ℕ). row_at by_name i c.args.names.now) c.name_id.ensures) in
+    let made : Some (g.T.NamedFrom.made row name) ≡ with_name g.T.NamedFrom.id_of g.T.NamedFrom.made (g.N.NameTable.rows c.args.names.now) row =
+    ap (option_map (λ (n : Name). g.T.NamedFrom.made row n.name)) (c.in-Some.ensures.row ∙ ap (λ (i : ℕ). row_at by_name i (g.N.NameTable.rows c.args.names.now)) c.name_id.ensures) in
     let named : c.found.inside.name ≡ g.T.Named.name_of (g.T.NamedFrom.made row name) = ap (λ (r : Name). r.name) c.found.view_is ∙ sym (g.met.T.NamedFrom.keeps_name row name) in
     let place : c.place_of-place.result ≡ place_in (by_bytes g.T.Named.name_of) (g.T.Named.name_of (g.T.NamedFrom.made row name)) c.args.items.now.items =
     c.place_of-place.ensures ∙ ap (λ (k : List ℕ). place_in (by_bytes g.T.Named.name_of) k c.as_slice.result.now) named

@@ -12,17 +12,17 @@ pub keep_named-requires-clause-rise : goal.keep_named-requires-clause-rise
 keep_named-requires-clause-rise g c =
     subst (λ (l : List g.row.T.Denot). rises (by_bytes g.T.Named.name_of) l ≡ true) (sym c.loop-row.invariant.least)
     (rises-least (by_bytes g.T.Named.name_of) nat_list_cmp_total c.args.after.now c.args.max
-    (filter_map (with_name g.T.NamedFrom.id_of g.T.NamedFrom.made c.args.names.now) (take c.loop-row.row-index c.args.rows.now)))
+    (filter_map (with_name g.T.NamedFrom.id_of g.T.NamedFrom.made (g.N.NameTable.rows c.args.names.now)) (take c.loop-row.row-index c.args.rows.now)))
 
 pub loop-row-preserved : goal.loop-row-preserved
 loop-row-preserved g c = record {
   least =
       c.in_ok-keep_named.ensures.kept
-      ∙ ap (kept (by_bytes g.T.Named.name_of) c.args.after.now c.args.max (with_name g.T.NamedFrom.id_of g.T.NamedFrom.made c.args.names.now c.row-item.result)) c.loop-row.invariant.least
-      ∙ kept_more (by_bytes g.T.Named.name_of) nat_list_cmp_total c.args.after.now c.args.max (with_name g.T.NamedFrom.id_of g.T.NamedFrom.made c.args.names.now c.row-item.result)
-      (filter_map (with_name g.T.NamedFrom.id_of g.T.NamedFrom.made c.args.names.now) (take c.loop-row.row-index c.args.rows.now))
+      ∙ ap (kept (by_bytes g.T.Named.name_of) c.args.after.now c.args.max (with_name g.T.NamedFrom.id_of g.T.NamedFrom.made (g.N.NameTable.rows c.args.names.now) c.row-item.result)) c.loop-row.invariant.least
+      ∙ kept_more (by_bytes g.T.Named.name_of) nat_list_cmp_total c.args.after.now c.args.max (with_name g.T.NamedFrom.id_of g.T.NamedFrom.made (g.N.NameTable.rows c.args.names.now) c.row-item.result)
+      (filter_map (with_name g.T.NamedFrom.id_of g.T.NamedFrom.made (g.N.NameTable.rows c.args.names.now)) (take c.loop-row.row-index c.args.rows.now))
       ∙ ap (λ (l : List g.row.T.Denot). take c.args.max (rows_past (by_bytes g.T.Named.name_of) c.args.after.now (sorted_by (by_bytes g.T.Named.name_of) l)))
-      (filter_map-more (with_name g.T.NamedFrom.id_of g.T.NamedFrom.made c.args.names.now) c.args.rows.now c.loop-row.row-index c.row-item.result c.loop-row-test.true c.row-item.is);
+      (filter_map-more (with_name g.T.NamedFrom.id_of g.T.NamedFrom.made (g.N.NameTable.rows c.args.names.now)) c.args.rows.now c.loop-row.row-index c.row-item.result c.loop-row-test.true c.row-item.is);
   short = c.in_ok-keep_named.ensures.short c.loop-row.invariant.short;
 }
 
@@ -32,4 +32,4 @@ returns-clause-page g c =
     (and_from (is_page (by_bytes g.T.Named.name_of) c.args.after.now c.args.max c.loop-row.items.items) (list_all (λ x. has_short_name (g.T.Named.name_of x)) c.loop-row.items.items)
     (subst (λ (l : List g.row.T.Denot). is_page (by_bytes g.T.Named.name_of) c.args.after.now c.args.max l ≡ true) (sym c.loop-row.invariant.least)
     (least-paged (by_bytes g.T.Named.name_of) nat_list_cmp_total c.args.after.now c.args.max
-    (filter_map (with_name g.T.NamedFrom.id_of g.T.NamedFrom.made c.args.names.now) (take c.loop-row.row-index c.args.rows.now)))) c.loop-row.invariant.short)
+    (filter_map (with_name g.T.NamedFrom.id_of g.T.NamedFrom.made (g.N.NameTable.rows c.args.names.now)) (take c.loop-row.row-index c.args.rows.now)))) c.loop-row.invariant.short)

@@ -7,6 +7,6 @@ use Rattle.row_lists.proofs.listing.named.least_named.Given as goal
 
 abbrev pub invariant-loop-row : goal.invariant-loop-row
 invariant-loop-row g l = record {
-  least : l.items.items ≡ take l.max (rows_past (by_bytes g.T.Named.name_of) l.after (sorted_by (by_bytes g.T.Named.name_of) (filter_map (with_name g.T.NamedFrom.id_of g.T.NamedFrom.made l.names) (take l.row-index l.rows))));
+  least : l.items.items ≡ take l.max (rows_past (by_bytes g.T.Named.name_of) l.after (sorted_by (by_bytes g.T.Named.name_of) (filter_map (with_name g.T.NamedFrom.id_of g.T.NamedFrom.made (g.N.NameTable.rows l.names)) (take l.row-index l.rows))));
   short : list_all (λ x. has_short_name (g.T.Named.name_of x)) l.items.items ≡ true;
 }
