@@ -1,5 +1,7 @@
+pub mod Holder
 pub mod Least
 pub mod Listed
+pub mod Marks
 pub mod Parts
 pub mod Places
 pub mod Ranges

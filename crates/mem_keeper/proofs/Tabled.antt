@@ -1,6 +1,6 @@
 -- Rows by their keys in a map: their look-ups, and what changes of the map make of them.
 use Rattle.std.proofs.Common.{◌≡◌, ℕ, ◌+◌, ◌<◌, ◌≤◌, arith, drop, get_or, append-nil, take_all, length, take, ◌++◌, not, ◌&&◌, List, [], ◌∷◌, Bool, true, false, cond, Option, None, Some, refl, sym, ap, ◌∙◌, subst}
-use Rattle.std.specs.Prelude.{IsTrue, IfSome, is_some}
+use Rattle.std.specs.Prelude.{IsTrue, IfSome, IsSome, is_some}
 use Rattle.std.specs.List.{AllByRecursion, list_all, filter, cons_option}
 use Rattle.std.specs.List.Sorted.{IsStrictlySortedBy}
 use Rattle.std.specs.Map.{keys_of, lookup, remove_entry}
@@ -279,3 +279,14 @@ pub entries_everywhere : {K X : Type 0} (cmp : K → K → Ordering) (es : List 
     → filter (λ e. range_contains cmp Unbounded Unbounded e.0) es ≡ es
 entries_everywhere cmp [] = refl
 entries_everywhere cmp (e ∷ es) = ap (λ l. e ∷ l) (entries_everywhere cmp es)
+
+-- a change at one key leaves what is at others
+pub kept_apart : {K X : Type 0} (cmp : K → K → Ordering) (k q : K) (es fs : List (K × X)) → (cmp k q ≡ Equal → ⊥)
+    → lookup (is_at (cmp q)) fs ≡ cond (is_at (cmp k) q) None (lookup (is_at (cmp q)) es)
+    → IsSome (lookup (is_at (cmp q)) es) → IsSome (lookup (is_at (cmp q)) fs)
+kept_apart cmp k q es fs apart updated there = by_case (is_eq (cmp k q)) refl updated
+  where
+    by_case : (b : Bool) → is_eq (cmp k q) ≡ b
+        → lookup (is_at (cmp q)) fs ≡ cond b None (lookup (is_at (cmp q)) es) → IsSome (lookup (is_at (cmp q)) fs)
+    by_case true is gone = absurd (apart (equal_from_is_eq (cmp k q) is))
+    by_case false is same = subst IsSome (sym same) there

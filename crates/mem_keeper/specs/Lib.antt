@@ -1,3 +1,4 @@
+pub mod Holders
 pub mod Index
 pub mod Indexes
 pub mod Memory

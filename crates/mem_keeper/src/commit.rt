@@ -114,6 +114,7 @@ fn room_for_gone(alloc: Global, rows: usize) -> Result<Gone, AllocError> {
     Ok(Gone {
         names: Vec::with_capacity(alloc, rows)?,
         blocks: Vec::with_capacity(alloc, rows)?,
+        contents: Vec::with_capacity(alloc, rows)?,
     })
 }
 

@@ -2,25 +2,29 @@
 ghost use Rattle.std.specs.Prelude.{◌≡◌, ℕ, List, IfSome, false, option_map, IsTrue, IfOk, OnOk, All};
 ghost use Rattle.std.specs.Ordering.{nat_cmp};
 ghost use Rattle.s3_rows.specs.Tables.{by_name, by_block};
-ghost use Rattle.s3_rows.specs.Selections.{name_of_bytes, block_of_digest};
+ghost use Rattle.s3_rows.specs.Selections.{name_of_bytes, block_of_digest, holder_of};
+ghost use Rattle.s3_rows.specs.Ranges.{HasRanges};
 ghost use Rattle.mem_keeper.specs.Index.{Covers, IsListed};
 ghost use Rattle.mem_keeper.specs.Indexes.{Stand, IsListedChange, StayListed};
 ghost use Rattle.mem_keeper.specs.Store.{IsMaps, tables_in};
 ghost use Rattle.mem_keeper.specs.Table.{rows_of, IsTable};
 
+use crate::holders::{add_holder, list_holders, rows_naming, unlist_holders};
 use crate::index::Index;
 use crate::look_ups::{Indexed, block_of_digest_of, has_bytes, name_id_of};
 use crate::store::{Gone, Maps};
-use s3_rows::{BlockRow, Change, Digest};
+use row_lists::holder_of_inode;
+use s3_rows::{BlockRow, Change, ContentRow, Digest};
 use std::alloc::{AllocError, Global};
 use std::collections::BTreeMap;
 use std::ops::Bound;
 
-/// Indexes of the names by their bytes and of the blocks by their digests. They may not stand yet.
+/// Indexes of the names by their bytes, of the blocks by their digests and of the entries by the inodes that they name. They may not stand yet.
 #[derive(Debug, Drop)]
 pub(crate) struct Indexes {
     pub names: Index,
     pub blocks: Index,
+    pub holders: BTreeMap<(u64, (u64, u64)), ()>,
     pub stand: bool,
 }
 
@@ -32,6 +36,7 @@ impl Indexes {
         Indexes {
             names: Index::new(alloc),
             blocks: Index::new(alloc),
+            holders: BTreeMap::new(alloc),
             stand: false,
         }
     }
@@ -79,6 +84,7 @@ pub(crate) fn build(indexes: &mut Indexes, alloc: Global, maps: &Maps) -> Result
     }
     list_rows(&mut indexes.names, alloc, &maps.names.map)?;
     list_rows(&mut indexes.blocks, alloc, &maps.blocks)?;
+    list_holders(&mut indexes.holders, &maps.contents)?;
     indexes.stand = true;
     Ok(())
 }
@@ -115,6 +121,25 @@ pub(crate) fn block_of_digest_in(
     Ok(block_of_digest_of(&indexes.blocks, &maps.blocks, digest))
 }
 
+/// An entry that names the inode: the least by its parent and by the bytes of its name. It builds the indexes where they do
+/// not stand.
+pub(crate) fn holder_in(
+    indexes: &mut Indexes,
+    alloc: Global,
+    maps: &Maps,
+    inode: u64,
+) -> Result<Option<ContentRow>, AllocError>
+    requires maps { IsMaps maps.now }
+    requires ranges { HasRanges (tables_in maps.now) }
+    requires standing { IsTrue indexes.old.stand → Stand indexes.old (tables_in maps.now) }
+    ensures row { IfOk result (λ r. r ≡ holder_of (tables_in maps.now) inode) }
+    ensures standing { IsTrue indexes.new.stand → Stand indexes.new (tables_in maps.now) }
+{
+    build(indexes, alloc, maps)?;
+    let rows = rows_naming(alloc, &indexes.holders, &maps.contents, inode)?;
+    Ok(holder_of_inode(&rows, &maps.names, inode))
+}
+
 // Lists the row that a change puts.
 fn list_change(indexes: &mut Indexes, alloc: Global, change: &Change) -> Result<(), AllocError>
     ensures ok { OnOk result (IsListedChange indexes.new change.now) }
@@ -124,6 +149,7 @@ fn list_change(indexes: &mut Indexes, alloc: Global, change: &Change) -> Result<
     match change {
         Change::PutName(row) => indexes.names.add(alloc, row.bytes(), row.id),
         Change::PutBlock(row) => indexes.blocks.add(alloc, row.bytes(), row.id),
+        Change::PutContent(row) => add_holder(&mut indexes.holders, row),
         _ => Ok(()),
     }
 }
@@ -174,4 +200,5 @@ pub(crate) fn tidy(indexes: &mut Indexes, maps: &Maps, gone: &Gone)
 {
     unlist_all(&mut indexes.names, &maps.names.map, &gone.names);
     unlist_all(&mut indexes.blocks, &maps.blocks, &gone.blocks);
+    unlist_holders(&mut indexes.holders, &maps.contents, &gone.contents);
 }

@@ -8,10 +8,8 @@ ghost use Rattle.mem_keeper.specs.Memory.{IsCall};
 
 use crate::MemKeeper;
 use crate::commit::commit_batch;
-use crate::indexes::{block_of_digest_in, name_id_in};
-use crate::lists::{
-    attrs_in, blocks_in, entries_in, free_objects_in, holder_in, slot_in, slots_in,
-};
+use crate::indexes::{block_of_digest_in, holder_in, name_id_in};
+use crate::lists::{attrs_in, blocks_in, entries_in, free_objects_in, slot_in, slots_in};
 use crate::look_ups::{attr_in, copy_of_row, entry_in, spot_in};
 use crate::pages::page_in;
 use crate::store::settle;
@@ -143,7 +141,7 @@ impl Keeper for MemKeeper {
     {
         self.begin()?;
         settle(&mut self.store, self.alloc)?;
-        match holder_in(self.alloc, &self.store.maps, inode) {
+        match holder_in(&mut self.indexes, self.alloc, &self.store.maps, inode) {
             Ok(found) => Ok(found),
             Err(_) => Err(KeeperFault::Memory),
         }

@@ -3,6 +3,7 @@
 
 mod calls;
 mod commit;
+mod holders;
 mod index;
 mod indexes;
 mod keeper;

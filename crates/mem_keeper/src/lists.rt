@@ -4,15 +4,13 @@ ghost use Rattle.std.specs.List.{list_all};
 ghost use Rattle.std.specs.BTreeMap.Range.{range_contains};
 ghost use Rattle.s3_rows.specs.Rows.{IsInodeBlock, IsContent};
 ghost use Rattle.s3_rows.specs.Ranges.{HasRanges};
-ghost use Rattle.s3_rows.specs.Selections.{attrs_listed, by_attr_name, by_entry_name, entries_listed, free_objects_listed, holder_of, inode_blocks_listed, slot_of_spot, slots_listed};
+ghost use Rattle.s3_rows.specs.Selections.{attrs_listed, by_attr_name, by_entry_name, entries_listed, free_objects_listed, inode_blocks_listed, slot_of_spot, slots_listed};
 ghost use Rattle.s3_rows.specs.Told.{by_number, has_short_name, is_page, is_run_of, is_run_of_slots};
 ghost use Rattle.mem_keeper.specs.Store.{IsMaps, tables_in};
 
 use crate::store::Maps;
 use crate::table::{Sought, rows_passing, rows_within};
-use row_lists::{
-    attrs_of, blocks_of_inode, entries_of, free_objects_of, holder_of_inode, slot_of, slots_of,
-};
+use row_lists::{attrs_of, blocks_of_inode, entries_of, free_objects_of, slot_of, slots_of};
 use s3_base::{ByteList, NumberList};
 use s3_rows::{
     AttrRow, ContentRow, EntryList, InodeBlockList, NamedAttrList, ObjectRow, SlotList, SlotRow,
@@ -73,18 +71,6 @@ impl Sought<ContentRow> for OfParent {
 
     fn passes(&self, row: &ContentRow) -> bool {
         row.parent == self.0
-    }
-}
-
-// Entries that name an inode.
-#[derive(Drop)]
-struct NamesInode(u64);
-
-impl Sought<ContentRow> for NamesInode {
-    ghost passes = { λ s r. r.inode == s.0 };
-
-    fn passes(&self, row: &ContentRow) -> bool {
-        row.inode == self.0
     }
 }
 
@@ -168,25 +154,6 @@ pub(crate) fn attrs_in(
         &OfInode(inode),
     )?;
     attrs_of(alloc, &rows, &maps.names, inode, after, max)
-}
-
-/// An entry that names the inode: the least by its parent and by the bytes of its name.
-pub(crate) fn holder_in(
-    alloc: Global,
-    maps: &Maps,
-    inode: u64,
-) -> Result<Option<ContentRow>, AllocError>
-    requires { IsMaps maps.now }
-    ensures { IfOk result (λ r. r ≡ holder_of (tables_in maps.now) inode) }
-{
-    let rows = rows_passing(
-        alloc,
-        &maps.contents,
-        Bound::Unbounded,
-        Bound::Unbounded,
-        &NamesInode(inode),
-    )?;
-    Ok(holder_of_inode(&rows, &maps.names, inode))
 }
 
 /// The least slot that holds the block at this place.

@@ -44,11 +44,12 @@ pub(crate) struct Store {
     pub maps: Maps,
 }
 
-/// Rows of names and blocks that a batch has replaced or deleted.
+/// Rows of names, blocks and entries that a batch has replaced or deleted.
 #[derive(Debug, Drop)]
 pub(crate) struct Gone {
     pub names: Vec<NameRow>,
     pub blocks: Vec<BlockRow>,
+    pub contents: Vec<ContentRow>,
 }
 
 impl Maps {
@@ -173,7 +174,7 @@ fn keep<R: Keyed>(gone: &mut Vec<R>, row: Option<R>) {
     }
 }
 
-/// Makes a change. Rows of names and blocks that go are added to `gone`.
+/// Makes a change. Rows of names, blocks and entries that go are added to `gone`.
 pub(crate) fn apply_change(maps: &mut Maps, gone: &mut Gone, change: Change)
     requires maps { IsMaps maps.old }
     requires place { HasPlace maps.old change }
@@ -187,9 +188,12 @@ pub(crate) fn apply_change(maps: &mut Maps, gone: &mut Gone, change: Change)
         Change::DeleteInode(id) => remove_row(&mut maps.inodes, id),
         Change::PutName(row) => keep(&mut gone.names, put_in(&mut maps.names.map, row)),
         Change::DeleteName(id) => keep(&mut gone.names, take_from(&mut maps.names.map, id)),
-        Change::PutContent(row) => put_row(&mut maps.contents, row),
+        Change::PutContent(row) => keep(&mut gone.contents, put_in(&mut maps.contents, row)),
         Change::DeleteContent(parent, name_id) => {
-            remove_row(&mut maps.contents, (parent, name_id))
+            keep(
+                &mut gone.contents,
+                take_from(&mut maps.contents, (parent, name_id)),
+            )
         }
         Change::PutInodeBlock(row) => put_row(&mut maps.inode_blocks, row),
         Change::DeleteInodeBlock(inode, blockno) => {

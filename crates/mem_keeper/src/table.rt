@@ -1,6 +1,7 @@
 //! Rows by their keys in a map. A key may be held for a row to come, so that a put of it takes no memory.
 ghost use Rattle.std.specs.Prelude.{◌≡◌, ◌++◌, ◌+◌, ◌≤◌, [], filter, take, Bool, IsTrue, IfOk, OnOk, IfSome, IsSome, Option, option_map};
 ghost use Rattle.std.specs.BTreeMap.{get};
+ghost use Rattle.std.specs.declared.cmp.Ordering.TheVariants.{Equal};
 ghost use Rattle.std.specs.BTreeMap.Range.{IsLeBy, IsLtBy, range_contains};
 ghost use Rattle.std.specs.Range.Bound.{IsForward};
 ghost use Rattle.std.specs.List.{cons_option};
@@ -142,6 +143,30 @@ pub(crate) fn rows_within<R: Keyed>(
         }
     }
     Ok(rows)
+}
+
+/// Holds a key in a set of keys.
+pub(crate) fn hold_key<K: Ord + Copy + Drop>(
+    keys: &mut BTreeMap<K, ()>,
+    key: K,
+) -> Result<(), AllocError>
+    ensures held { OnOk result (IsSome (get K.cmp keys.new key)) }
+    ensures kept { KeepsPlaces K.cmp keys.old keys.new }
+{
+    if keys.contains_key(&key) {
+        return Ok(());
+    }
+    match keys.insert(key, ()) {
+        Ok(_) => Ok(()),
+        Err(_) => Err(AllocError),
+    }
+}
+
+/// Lets go of a key of a set of keys.
+pub(crate) fn drop_key<K: Ord + Copy + Drop>(keys: &mut BTreeMap<K, ()>, key: K)
+    ensures { (q : K) → (K.cmp key q ≡ Equal → ⊥) → IsSome (get K.cmp keys.old q) → IsSome (get K.cmp keys.new q) }
+{
+    let _ = keys.remove(&key);
 }
 
 /// A test of rows.

@@ -1,4 +1,4 @@
-use Rattle.std.proofs.Common.{◌≡◌, ℕ, List, Bool, ◌==◌, nat_lt, map, take, refl, sym, ap, ◌∙◌, subst}
+use Rattle.std.proofs.Common.{◌≡◌, List, Bool, ◌==◌, nat_lt, map, take, refl, sym, ap, ◌∙◌, subst}
 use Rattle.std.specs.Prelude.{IsTrue, filter}
 use Rattle.std.specs.Cmp.{nat_cmp_total}
 use Rattle.s3_rows.specs.Rows.{Object}

@@ -1,4 +1,4 @@
-use Rattle.std.proofs.Common.{◌≡◌, List, Bool, ◌&&◌, ◌==◌, refl, sym, ap, ◌∙◌}
+use Rattle.std.proofs.Common.{◌≡◌, List, Bool, ◌&&◌, ◌==◌, refl, ap, ◌∙◌}
 use Rattle.std.specs.Prelude.{filter, find}
 use Rattle.s3_rows.specs.Rows.{Slot}
 use Rattle.mem_keeper.specs.Table.{rows_of}

@@ -1,4 +1,4 @@
-use Rattle.std.proofs.Common.{◌≡◌, ◌++◌, [], filter, append-nil, append_assoc, sym, ap, ◌∙◌}
+use Rattle.std.proofs.Common.{◌++◌, [], filter, append-nil, append_assoc, sym, ap, ◌∙◌}
 use Rattle.std.specs.List.{cons_option}
 use Rattle.mem_keeper.specs.Table.{rows_of}
 use Rattle.mem_keeper.proofs.Tabled.{rows_of-entries_between, filter-more}
