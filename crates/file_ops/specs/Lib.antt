@@ -2,3 +2,5 @@ pub mod FileBytes
 pub mod FileFaults
 pub mod Loads
 pub mod NewBlocks
+pub mod Placed
+pub mod Resolved

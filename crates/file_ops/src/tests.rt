@@ -1,12 +1,16 @@
 ghost use Rattle.std.specs.Prelude.{◌<◌, ◌≤◌, ◌^◌, length};
 ghost use Rattle.s3_rows.specs.Rows.{IsBlockSize, IsId};
 
-use crate::{LoadFault, NewBlock, fetch, load, read, resized_blocks, store, written_blocks};
+use crate::{
+    LoadFault, NewBlock, fetch, load, place_blocks, read, resized_blocks, store, written_blocks,
+};
 use hash_index::digest;
 use mem_keeper::MemKeeper;
 use mem_link::MemLink;
-use s3_base::ByteList;
-use s3_rows::{Batch, BlockRow, Change, Digest, InodeBlockRow, Keeper};
+use s3_base::{ByteList, Kind};
+use s3_rows::{
+    Batch, BlockRow, Change, Digest, InodeBlockRow, InodeRow, Keeper, ObjectRow, made_batch,
+};
 use std::alloc::Global;
 use std::test::Fail;
 
@@ -122,5 +126,89 @@ fn blocks_of_files_are_loaded(rt: HostRuntime) -> Result<(), Fail> {
     let resized = resized_blocks(alloc, &mut keeper, &mut link, 5, 10, 4, 9)?;
     assert_eq!(rt; resized.len(), 1);
     assert!(rt; is_block(resized.first(), 2, b"e".as_slice()));
+    Ok(())
+}
+
+// A file of two equal blocks and one of zeros between them, in a file system that was just made.
+#[test]
+fn new_blocks_are_placed(rt: HostRuntime) -> Result<(), Fail> {
+    let alloc = rt.alloc();
+    let mut keeper = MemKeeper::new(alloc);
+    let mut link = MemLink::new(alloc);
+    let made = made_batch(alloc, 4096, 8, 0)?;
+    assert_eq!(rt; keeper.commit(&made), Ok(()));
+    let mut batch = Batch::new(alloc);
+    batch.push(Change::PutInode(InodeRow {
+        id: 3,
+        kind: Kind::Regular,
+        mode: 0o644,
+        uid: 0,
+        gid: 0,
+        mtime: 0,
+        ctime: 0,
+        refcount: 0,
+        size: 8195,
+        locked: false,
+    }))?;
+    let blocks = [
+        NewBlock {
+            blockno: 0,
+            stored: bytes(alloc, b"abc".as_slice())?,
+        },
+        NewBlock {
+            blockno: 1,
+            stored: ByteList::new(alloc),
+        },
+        NewBlock {
+            blockno: 2,
+            stored: bytes(alloc, b"abc".as_slice())?,
+        },
+    ];
+    assert_eq!(rt;
+        place_blocks(
+            alloc,
+            &mut keeper,
+            &mut link,
+            3,
+            blocks.as_slice(),
+            &mut batch
+        ),
+        Ok(())
+    );
+    assert_eq!(rt; keeper.commit(&batch), Ok(()));
+    assert!(rt;
+        matches!(
+            keeper.block_at(3, 2),
+            Ok(Some(InodeBlockRow { block: 1, .. }))
+        )
+    );
+    assert!(rt; matches!(keeper.block_at(3, 1), Ok(None)));
+    assert!(rt;
+        matches!(
+            keeper.block(1),
+            Ok(Some(BlockRow {
+                refcount: 2,
+                size: 3,
+                object: 1,
+                ..
+            }))
+        )
+    );
+    assert!(rt;
+        matches!(
+            keeper.object(1),
+            Ok(Some(ObjectRow {
+                refcount: 1,
+                size: Some(3),
+                ..
+            }))
+        )
+    );
+    assert!(rt; matches!(keeper.object(2), Ok(None)));
+    let kept = digest(b"abc".as_slice());
+    assert_eq!(rt;
+        fetch(alloc, &mut link, 1, &kept),
+        Ok(bytes(alloc, b"abc".as_slice())?)
+    );
     Ok(())
 }

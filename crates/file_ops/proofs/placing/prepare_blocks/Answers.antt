@@ -1,0 +1,19 @@
+use Rattle.std.proofs.Common.{◌≡◌, [], ap, sym, ◌∙◌}
+use Rattle.sha2.specs.Sha256.{sha256}
+use Rattle.ref_counts.proofs.Told.{IfTold-same, IfTold-weaker2}
+use Rattle.s3_rows.specs.Rows.{Parameters}
+use Rattle.file_ops.specs.Resolved.{resolved}
+use Rattle.file_ops.proofs.Left.{IfSome-there}
+use Rattle.file_ops.proofs.OldObjects.{old_kept}
+use Rattle.file_ops.proofs.placing.prepare_blocks.Goals as goal
+
+pub returns-clause-others : goal.returns-clause-others
+returns-clause-others g c =
+    IfTold-weaker2 (g.K.Keeper.told c.args.keeper.now) _ _ _
+    (λ t row found.
+    old_kept sha256 t c.args.blocks.now c.in-Some.params (sym c.in-Some.is ∙ row) c.params-2.inside.next_block c.params-2.inside.next_object c.in-Some-2.places c.as_slice-2.result.now
+    (ap (λ (p : Parameters). p.next_block) c.params-2.view_is) (ap (λ (p : Parameters). p.next_object) c.params-2.view_is)
+    c.as_slice-2.ensures (IfSome-there (λ places. places ≡ resolved sha256 t [] c.params-2.inside.next_block c.params-2.inside.next_object c.args.blocks.now) _ c.in-Some-2.places c.in-Some-2.is found)
+    (g.L.Link.told c.args.link.now) (g.L.Link.told c.store_objects.new.link) c.in_ok-store_objects.ensures.put)
+    c.in_ok-params.ensures.row
+    (IfTold-same _ _ _ c.in_ok-params.ensures.same c.in_ok-places.ensures.places)
