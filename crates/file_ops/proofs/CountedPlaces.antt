@@ -19,8 +19,8 @@ use Rattle.row_lemmas.proofs.Keyed.Put.{list_all-put, row_at-put_other}
 use Rattle.row_lemmas.proofs.Keyed.RowAt.{row_at_from_find, row_at_key, row_at_passes}
 use Rattle.tree_rows.specs.Spots.{form_at, form_of_row}
 use Rattle.core_model.specs.Safe.{new_object}
-use Rattle.ref_counts.specs.Links.{counted_block}
-use Rattle.block_steps.specs.Owed.{AreRowsOf, KeepsNames, OwesPlaces}
+use Rattle.ref_counts.specs.Links.{counted_block, AreRowsOf}
+use Rattle.block_steps.specs.Owed.{KeepsNames, OwesPlaces}
 use Rattle.block_steps.specs.Places.{block_drawn, block_made}
 use Rattle.file_ops.specs.declared.place.Place.{Place}
 use Rattle.file_ops.specs.declared.place.Place.TheVariants as places

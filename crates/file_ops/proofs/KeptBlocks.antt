@@ -17,8 +17,7 @@ use Rattle.row_lemmas.proofs.Keyed.RowAt.{row_at_key, row_at_meets}
 use Rattle.tree_rows.specs.Contents.{Contents, HaveBytes, bytes_of}
 use Rattle.core_model.specs.Safe.{HaveHeld, Held}
 use Rattle.core_model.specs.Occurring.{Knows, is_stored}
-use Rattle.ref_counts.specs.Links.{counted_block}
-use Rattle.block_steps.specs.Owed.{AreRowsOf}
+use Rattle.ref_counts.specs.Links.{counted_block, AreRowsOf}
 use Rattle.block_steps.specs.Places.{block_made}
 use Rattle.file_ops.specs.declared.new_block.NewBlock.{NewBlock}
 use Rattle.file_ops.specs.declared.place.Place.{Place}

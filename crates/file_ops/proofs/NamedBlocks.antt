@@ -17,7 +17,8 @@ use Rattle.row_lemmas.proofs.Tests.{list_all_weaker}
 use Rattle.tree_rows.specs.Contents.{Contents, HaveBytes}
 use Rattle.tree_rows.specs.Spots.{form_at, form_of_row}
 use Rattle.core_model.specs.Safe.{with_new_objects}
-use Rattle.block_steps.specs.Owed.{AreRowsOf, KeepsNames, OwesPlaces, times}
+use Rattle.ref_counts.specs.Links.{AreRowsOf}
+use Rattle.block_steps.specs.Owed.{KeepsNames, OwesPlaces, times}
 use Rattle.block_steps.specs.Places.{Places, blocks_named, is_among_places, places_relinked}
 use Rattle.file_ops.specs.declared.new_block.NewBlock.{NewBlock}
 use Rattle.file_ops.specs.declared.place.Place.{Place}
