@@ -1,6 +1,11 @@
 pub mod Come
 pub mod LockPlanned
 pub mod LockedRows
+pub mod LostEntry
 pub mod Nearer
 pub mod NextNames
 pub mod Reached
+pub mod RemovedSteps
+pub mod RemovedTree
+pub mod ShrunkTree
+pub mod TakenRows
