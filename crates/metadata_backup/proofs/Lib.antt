@@ -1,6 +1,6 @@
 mod Digits
 mod GenerationLaws
-mod KeyNumbers
+pub mod KeyNumbers
 mod ReplacingLaws
 mod RestoreLaws
-mod SurveyLaws
+pub mod SurveyLaws

@@ -14,5 +14,5 @@ mod survey;
 pub use generations::{newest, rotate};
 pub use laws::{keys_read_by_hand, numbers_have_one_key, rotations_take_old_generations};
 pub use restore_fault::RestoreFault;
-pub use restoring::restore;
+pub use restoring::{replace_tables, restore};
 pub use stored::{Dump, DumpReceipt, store_generation, take_dump};

@@ -132,8 +132,8 @@ fn restored_parameters(
     }
 }
 
-/// Puts tables in place of those of the keeper, with these parameters, by one batch.
-fn replace<K: Keeper>(
+/// Puts tables in place of those of the keeper, with these parameters, by one batch. Where it is refused they are as before.
+pub fn replace_tables<K: Keeper>(
     alloc: Global,
     keeper: &mut K,
     tables: Tables,
@@ -169,7 +169,7 @@ fn restore_over<K: Keeper, L: Link>(
 {
     let found = find_generation(alloc, link, generation)?;
     let params = restored_parameters(&found.tables, before, found.newest, found.next_object);
-    replace(alloc, keeper, found.tables, params)?;
+    replace_tables(alloc, keeper, found.tables, params)?;
     Ok(())
 }
 

@@ -2,7 +2,7 @@ use Rattle.std.proofs.Common.{subst}
 use Rattle.std.proofs.lemmas.Result.{on_ok_weaker}
 use Rattle.s3_rows.specs.Tables.{IsOrdered}
 use Rattle.metadata_backup.proofs.RestoreLaws.{replaced}
-use Rattle.metadata_backup.proofs.restoring.replace.Goals as goal
+use Rattle.metadata_backup.proofs.restoring.replace_tables.Goals as goal
 
 pub returns-clause-ok : goal.returns-clause-ok
 returns-clause-ok g c =
