@@ -1,0 +1,2 @@
+mod FirstKeys
+mod FirstStores
