@@ -1,5 +1,5 @@
 -- Which of the changed blocks are loaded, and lists of new blocks.
-use Rattle.std.proofs.Common.{◌≡◌, ◌≢◌, ◌⊎◌, inl, inr, ℕ, ◌+◌, ◌-◌, ◌*◌, ◌/◌, ◌%◌, ◌<◌, ◌≤◌, List, [], ◌∷◌, ◌++◌, Bool, true, false, cond, length, min, refl, sym, ap, ◌∙◌, subst, arith, append_assoc}
+use Rattle.std.proofs.Common.{◌≡◌, ◌≢◌, ◌⊎◌, inl, inr, ℕ, ◌+◌, ◌-◌, ◌*◌, ◌/◌, ◌%◌, ◌<◌, ◌≤◌, List, [], ◌∷◌, ◌++◌, Bool, true, false, cond, length, get_or, min, refl, sym, ap, ◌∙◌, subst, arith, append_assoc}
 use Rattle.std.specs.Prelude.{◌==◌, ◌&&◌, not, nat_le, nat_lt, if◌then◌else◌, All, Contains, Result, Ok, Err, IfOk, IfErr}
 use Rattle.std.specs.List.{filter}
 use Rattle.std.proofs.Math.Nat.{mul-le-mul_right, div-mul-le_self}
@@ -7,7 +7,7 @@ use Rattle.std.proofs.lemmas.Bool.Decides.{nat_tests}
 use Rattle.std.proofs.lemmas.List.{map_push}
 use Rattle.std.proofs.lemmas.List.Elements.{All-contains, All-push, All-same, Contains-append_left, Contains-append_right, filter_passes}
 use Rattle.block_math.specs.Changes.{resized, written_at}
-use Rattle.block_math.specs.Ranges.{IsPiece}
+use Rattle.block_math.specs.Ranges.{IsPiece, piece_count}
 use Rattle.block_math.specs.declared.parts.Piece.{Piece}
 use Rattle.core_model.specs.Changes.{blocks_of_resize, is_overwritten, numbers_from, tail_before, tail_of}
 use Rattle.core_model.proofs.Elements.{Contains-cases, Contains-first, Contains-later, Contains-none}
@@ -92,6 +92,41 @@ tail_before-lt size len longer first n stored there = by_case (nat_lt len longer
         lt_from_test n first
         (All-contains (λ m. nat_lt m first ≡ true) (filter (λ m. nat_lt m first) (tail_of size len stored)) n (filter_passes (λ m. nat_lt m first) (tail_of size len stored)) is)
     by_case false is = absurd (Contains-none n is)
+
+-- ---- where changed blocks begin
+
+begins-before : (off size n end : ℕ) → 0 < size → off ≤ end → n < off / size → n * size < end
+begins-before off size n end some within early =
+    let begin : (n + 1) * size ≤ off / size * size = mul-le-mul_right size (omega arith) in
+    let last : off / size * size ≤ off = div-mul-le_self off size in
+    let own : (n + 1) * size ≡ n * size + size = omega arith in
+    omega (arith, some, within, begin, last, own)
+
+-- those before the first that a change touches begin before its end
+pub All-begin : (off size end : ℕ) (blocks : List NewBlock) → 0 < size → off ≤ end → All (λ b. b.blockno < off / size) blocks → All (λ b. b.blockno * size < end) blocks
+All-begin off size end blocks some within before = λ k d low. begins-before off size (get_or blocks k d).blockno end some within (before k d low)
+
+some_count : (n : ℕ) → (n == 0) ≡ false → 0 < n
+some_count n is = grind (arith, nat_tests)
+
+-- and so does each that a write touches
+pub begins-piece : (off size k count : ℕ) → k < piece_count off count size → (off / size + k) * size < off + count
+begins-piece off size k count low = by_case (count == 0) refl low
+  where
+    by_case : (b : Bool) → (count == 0) ≡ b → k < (if b then 0 else (off + count - 1) / size + 1 - off / size) → (off / size + k) * size < off + count
+    by_case true is less = absurd (omega arith)
+    by_case false is less =
+        let some : 0 < count = some_count count is in
+        let number : off / size + k ≤ (off + count - 1) / size = omega arith in
+        let begin : (off / size + k) * size ≤ (off + count - 1) / size * size = mul-le-mul_right size number in
+        let last : (off + count - 1) / size * size ≤ off + count - 1 = div-mul-le_self (off + count - 1) size in
+        omega (arith, begin, last, some)
+
+-- the block that a new end lies within begins before it
+pub begins-last : (longer size : ℕ) → 0 < size → longer % size ≢ 0 → longer / size * size < longer
+begins-last longer size some within =
+    let last : longer / size * size ≤ longer = div-mul-le_self longer size in
+    omega (arith, some, within, last)
 
 -- ---- what another length changes
 

@@ -30,6 +30,24 @@ link_failed (Err (faults.Lost object kept got)) = false
 link_failed (Err faults.Worn) = false
 link_failed (Err faults.Memory) = false
 
+-- bytes are lost
+abbrev pub is_lost : {T : Type 0} → Result T FileFault → Bool
+is_lost (Ok x) = false
+is_lost (Err faults.Keeper) = false
+is_lost (Err faults.Link) = false
+is_lost (Err (faults.Lost object kept got)) = true
+is_lost (Err faults.Worn) = false
+is_lost (Err faults.Memory) = false
+
+-- a number or a count has come to its end
+abbrev pub is_worn : {T : Type 0} → Result T FileFault → Bool
+is_worn (Ok x) = false
+is_worn (Err faults.Keeper) = false
+is_worn (Err faults.Link) = false
+is_worn (Err (faults.Lost object kept got)) = false
+is_worn (Err faults.Worn) = true
+is_worn (Err faults.Memory) = false
+
 -- the block row that the row of a spot names
 abbrev pub block_named : Tables → ℕ → ℕ → Option Block
 block_named t inode blockno = option_and_then (λ r. block_at t r.block) (inode_block_at t inode blockno)

@@ -1,5 +1,5 @@
 //! One block of a file, as the object store has it.
-ghost use Rattle.std.specs.Prelude.{◌≡◌, ℕ, Some, length, IfOk, IfErr};
+ghost use Rattle.std.specs.Prelude.{◌≡◌, ℕ, Some, false, length, IfOk, IfErr};
 ghost use Rattle.sha2.specs.Sha256.{sha256};
 ghost use Rattle.s3_base.specs.Faults.{HasCause};
 ghost use Rattle.block_math.specs.Blocks.{piece_of};
@@ -11,7 +11,7 @@ ghost use Rattle.tree_rows.specs.Spots.{form_at};
 ghost use Rattle.core_model.specs.Bytes.{Shows, no_overlay, shown_at};
 ghost use Rattle.core_model.specs.Safe.{HaveHeld};
 ghost use Rattle.file_ops.specs.FileBytes.{IfBothTold, IfFile, IsOfForm, stored_in};
-ghost use Rattle.file_ops.specs.FileFaults.{IsLossAt, block_named, keeper_failed, link_failed};
+ghost use Rattle.file_ops.specs.FileFaults.{IsLossAt, block_named, is_worn, keeper_failed, link_failed};
 
 use crate::{FileFault, fetch};
 use s3_base::ByteList;
@@ -49,6 +49,7 @@ pub fn load<K: Keeper, L: Link>(
     ensures digest { IfOk result (λ bytes. IfTold (K.told keeper.old) (λ t. IsOfForm sha256 (form_at t inode blockno) bytes)) }
     ensures size { IfOk result (λ bytes. IfBothTold (K.told keeper.old) (L.told link.old) (λ t o. AreHeld sha256 (objects_in o) t.blocks → length bytes ≡ stored_in t inode blockno)) }
     ensures lost { IfErr result (IsLossAt sha256 (K.told keeper.old) (L.told link.old) inode blockno) }
+    ensures unworn { is_worn result ≡ false }
     ensures keeper_same { K.told keeper.new ≡ K.told keeper.old }
     ensures link_same { L.told link.new ≡ L.told link.old }
     ensures keeper_cause { HasCause (K.faults keeper.old) (K.faults keeper.new) (keeper_failed result) }

@@ -1,5 +1,5 @@
 //! New blocks of a file: their bytes are put into the store where no row has them yet, and the places of the file name them.
-ghost use Rattle.std.specs.Prelude.{◌≡◌, ◌<◌, ◌≤◌, ◌^◌, ◌++◌, ◌∷◌, All, Some, None, length, count_by, IfOk, IfErr, OnOk};
+ghost use Rattle.std.specs.Prelude.{◌≡◌, ◌<◌, ◌≤◌, ◌^◌, ◌++◌, ◌∷◌, All, Some, None, false, length, count_by, IfOk, IfErr, OnOk};
 ghost use Rattle.std.specs.Option.{ForSome};
 ghost use Rattle.sha2.specs.Sha256.{sha256};
 ghost use Rattle.s3_base.specs.Faults.{HasCause};
@@ -13,7 +13,7 @@ ghost use Rattle.core_model.specs.Safe.{HaveHeld};
 ghost use Rattle.tree_rows.specs.Contents.{Contents, HaveBytes};
 ghost use Rattle.block_steps.specs.Places.{block_made, places_relinked};
 ghost use Rattle.file_ops.specs.declared.file_fault.FileFault.TheVariants.{Worn};
-ghost use Rattle.file_ops.specs.FileFaults.{keeper_failed, link_failed};
+ghost use Rattle.file_ops.specs.FileFaults.{is_lost, keeper_failed, link_failed};
 ghost use Rattle.file_ops.specs.Placed.{AreCounted, ArePlaceable, ArePlaced, ArePrepared, ArePut, AreReady, IsWornFor, HaveTheirForms, KeepsOldObjects, KnowsBlocks, LacksNumbers, links_of, place_counted, places_counted, places_in, with_next_block};
 ghost use Rattle.file_ops.specs.Resolved.{id_of, is_new};
 
@@ -158,6 +158,7 @@ fn prepare_blocks<K: Keeper, L: Link>(
     ensures prepared { Becomes ArePrepared (K.told keeper.old) (K.told keeper.new) }
     ensures others { IfTold (K.told keeper.old) (λ t. Becomes (KeepsOldObjects (places_in sha256 t blocks.now)) (L.told link.old) (L.told link.new)) }
     ensures worn { IfErr result (λ fault. fault ≡ Worn → IfTold (K.told keeper.old) (λ t. LacksNumbers sha256 t blocks.now)) }
+    ensures found_all { is_lost result ≡ false }
     ensures keeper { HasCause (K.faults keeper.old) (K.faults keeper.new) (keeper_failed result) }
     ensures link { HasCause (L.faults link.old) (L.faults link.new) (link_failed result) }
 {
@@ -204,6 +205,7 @@ pub fn place_blocks<K: Keeper, L: Link>(
         → Becomes (λ o after. AreHeld sha256 (objects_in o) t.blocks → AreHeld sha256 (objects_in after) (tables_after batch.new t).blocks) (L.told link.old) (L.told link.new))) }
     ensures bytes_held { OnOk result (IfTold (K.told keeper.new) (λ t. ArePlaceable t batch.old inode blocks.now → (m : Contents) → KnowsBlocks sha256 m blocks.now
         → Becomes (λ o after. HaveHeld m (objects_in o) t.blocks → HaveHeld m (objects_in after) (tables_after batch.new t).blocks) (L.told link.old) (L.told link.new))) }
+    ensures found_all { is_lost result ≡ false }
     ensures keeper { HasCause (K.faults keeper.old) (K.faults keeper.new) (keeper_failed result) }
     ensures link { HasCause (L.faults link.old) (L.faults link.new) (link_failed result) }
 {

@@ -1,5 +1,5 @@
 //! The blocks of a file after a write or with another length.
-ghost use Rattle.std.specs.Prelude.{◌≡◌, ℕ, ◌+◌, ◌-◌, ◌*◌, ◌/◌, ◌^◌, ◌<◌, ◌≤◌, ◌++◌, [], ◌∷◌, length, max, take, Contains, List, IfOk, IfErr, All};
+ghost use Rattle.std.specs.Prelude.{◌≡◌, ℕ, ◌+◌, ◌-◌, ◌*◌, ◌/◌, ◌^◌, ◌<◌, ◌≤◌, ◌++◌, [], ◌∷◌, length, max, take, Contains, List, IfOk, IfErr, All, false};
 ghost use Rattle.std.specs.Option.{ForSome};
 ghost use Rattle.sha2.specs.Sha256.{sha256};
 ghost use Rattle.s3_base.specs.Faults.{HasCause};
@@ -10,7 +10,7 @@ ghost use Rattle.core_model.specs.Changes.{blocks_of_resize, blocks_of_write, ne
 ghost use Rattle.s3_rows.specs.Tables.{Tables};
 ghost use Rattle.s3_rows.specs.Told.{IfTold, has_failed};
 ghost use Rattle.file_ops.specs.FileBytes.{IfFile, stored_in};
-ghost use Rattle.file_ops.specs.FileFaults.{IsLossAmong, IsLossAt, keeper_failed, link_failed};
+ghost use Rattle.file_ops.specs.FileFaults.{IsLossAmong, IsLossAt, is_worn, keeper_failed, link_failed};
 ghost use Rattle.file_ops.specs.NewBlocks.{AreBlocksOf, AreShort, number_of_tail, numbers_of};
 
 use crate::loading::row_named;
@@ -73,6 +73,7 @@ fn cut_block<K: Keeper, L: Link>(
     ensures stored { IfOk result (λ b. (size block_size : ℕ) → len ≤ rest_of block_size size blockno
         → IfFile (K.told keeper.old) (L.told link.old) inode size block_size (λ file. b.stored ≡ trimmed (take len (piece_of block_size file blockno)))) }
     ensures lost { IfErr result (IsLossAt sha256 (K.told keeper.old) (L.told link.old) inode blockno) }
+    ensures unworn { is_worn result ≡ false }
     ensures keeper_same { K.told keeper.new ≡ K.told keeper.old }
     ensures link_same { L.told link.new ≡ L.told link.old }
     ensures keeper_cause { HasCause (K.faults keeper.old) (K.faults keeper.new) (keeper_failed result) }
@@ -99,6 +100,7 @@ fn patched_block<K: Keeper, L: Link>(
     ensures stored { IfOk result (λ b. (size block_size : ℕ) → len ≤ rest_of block_size size blockno
         → IfFile (K.told keeper.old) (L.told link.old) inode size block_size (λ file. b.stored ≡ trimmed (written_at at part.now (take len (piece_of block_size file blockno))))) }
     ensures lost { IfErr result (IsLossAt sha256 (K.told keeper.old) (L.told link.old) inode blockno) }
+    ensures unworn { is_worn result ≡ false }
     ensures keeper_same { K.told keeper.new ≡ K.told keeper.old }
     ensures link_same { L.told link.new ≡ L.told link.old }
     ensures keeper_cause { HasCause (K.faults keeper.old) (K.faults keeper.new) (keeper_failed result) }
@@ -157,6 +159,7 @@ fn tail_blocks<K: Keeper, L: Link>(
     ensures short { IfOk result (λ bs. AreShort block_size bs) }
     ensures stored { IfOk result (λ bs. IfFile (K.told keeper.old) (L.told link.old) inode size block_size (λ file. AreBlocksOf block_size file bs)) }
     ensures lost { IfErr result (IsLossAmong sha256 (K.told keeper.old) (L.told link.old) inode (λ t. tail_before block_size size longer first (stored_in t inode))) }
+    ensures unworn { is_worn result ≡ false }
     ensures keeper_same { K.told keeper.new ≡ K.told keeper.old }
     ensures link_same { L.told link.new ≡ L.told link.old }
     ensures keeper_cause { HasCause (K.faults keeper.old) (K.faults keeper.new) (keeper_failed result) }
@@ -192,6 +195,7 @@ fn written_block<K: Keeper, L: Link>(
     ensures stored { IfOk result (λ b. IfFile (K.told keeper.old) (L.told link.old) inode size block_size (λ file. b.stored ≡ trimmed (piece_of block_size (written_at off new.now file) b.blockno))) }
     ensures lost { IfErr result (λ fault. (changed : Tables → List ℕ) → ((t : Tables) → Contains (changed t) (off / block_size + k))
         → IsLossAmong sha256 (K.told keeper.old) (L.told link.old) inode (λ t. needed_by_write block_size off (length new.now) (changed t)) fault) }
+    ensures unworn { is_worn result ≡ false }
     ensures keeper_same { K.told keeper.new ≡ K.told keeper.old }
     ensures link_same { L.told link.new ≡ L.told link.old }
     ensures keeper_cause { HasCause (K.faults keeper.old) (K.faults keeper.new) (keeper_failed result) }
@@ -231,10 +235,12 @@ pub fn written_blocks<K: Keeper, L: Link>(
     requires range { off + length new.now ≤ 2 ^ 50 }
     requires short { length new.now < 2 ^ 32 }
     ensures numbers { IfOk result (λ v. IfTold (K.told keeper.old) (λ t. numbers_of v.items ≡ blocks_of_write block_size off (length new.now) size (stored_in t inode))) }
+    ensures below { IfOk result (λ v. All (λ b. b.blockno * block_size < off + length new.now) v.items) }
     ensures short { IfOk result (λ v. AreShort block_size v.items) }
     ensures stored { IfOk result (λ v. IfFile (K.told keeper.old) (L.told link.old) inode size block_size (λ file. AreBlocksOf block_size (written_at off new.now file) v.items)) }
     ensures lost { IfErr result (IsLossAmong sha256 (K.told keeper.old) (L.told link.old) inode
         (λ t. needed_by_write block_size off (length new.now) (blocks_of_write block_size off (length new.now) size (stored_in t inode)))) }
+    ensures unworn { is_worn result ≡ false }
     ensures keeper_same { K.told keeper.new ≡ K.told keeper.old }
     ensures link_same { L.told link.new ≡ L.told link.old }
     ensures keeper_cause { HasCause (K.faults keeper.old) (K.faults keeper.new) (keeper_failed result) }
@@ -272,9 +278,11 @@ pub fn resized_blocks<K: Keeper, L: Link>(
 ) -> Result<Vec<NewBlock>, FileFault>
     requires block { 0 < block_size }
     ensures numbers { IfOk result (λ v. IfTold (K.told keeper.old) (λ t. numbers_of v.items ≡ blocks_of_resize block_size longer size (stored_in t inode))) }
+    ensures below { IfOk result (λ v. All (λ b. b.blockno * block_size < longer) v.items) }
     ensures short { IfOk result (λ v. AreShort block_size v.items) }
     ensures stored { IfOk result (λ v. IfFile (K.told keeper.old) (L.told link.old) inode size block_size (λ file. AreBlocksOf block_size (resized longer file) v.items)) }
     ensures lost { IfErr result (IsLossAmong sha256 (K.told keeper.old) (L.told link.old) inode (λ t. blocks_of_resize block_size longer size (stored_in t inode))) }
+    ensures unworn { is_worn result ≡ false }
     ensures keeper_same { K.told keeper.new ≡ K.told keeper.old }
     ensures link_same { L.told link.new ≡ L.told link.old }
     ensures keeper_cause { HasCause (K.faults keeper.old) (K.faults keeper.new) (keeper_failed result) }

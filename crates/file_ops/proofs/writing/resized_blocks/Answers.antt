@@ -1,4 +1,4 @@
-use Rattle.std.proofs.Common.{◌≡◌, ◌≤◌, ◌/◌, ◌*◌, ◌-◌, ℕ, length, min, sym, ap, ◌∙◌, arith}
+use Rattle.std.proofs.Common.{◌≡◌, ◌≤◌, ◌<◌, ◌/◌, ◌*◌, ◌-◌, ℕ, length, min, sym, ap, ◌∙◌, subst, arith}
 use Rattle.std.proofs.lemmas.Result.{err_from_is_err_and}
 use Rattle.std.proofs.lemmas.List.Elements.{All-same}
 use Rattle.sha2.specs.Sha256.{sha256}
@@ -9,7 +9,7 @@ use Rattle.file_ops.specs.FileBytes.{stored_in}
 use Rattle.file_ops.specs.declared.new_block.NewBlock.{NewBlock}
 use Rattle.file_ops.proofs.BothTold.{IfFile-same, IfFile-weaker, IfFile-weaker2}
 use Rattle.file_ops.proofs.Losses.{IsLossAmong-at, IsLossWhere-same, IsLossWhere-weaker}
-use Rattle.file_ops.proofs.Needed.{All-pushed, AreBlocksOf-longer, Contains-resize_last, Contains-resize_tail}
+use Rattle.file_ops.proofs.Needed.{All-begin, All-pushed, AreBlocksOf-longer, Contains-resize_last, Contains-resize_tail, begins-last}
 use Rattle.file_ops.proofs.Trimmed.{trimmed-cut}
 use Rattle.file_ops.proofs.writing.resized_blocks.Goals as goal
 
@@ -20,6 +20,11 @@ returns-in_err-blocks-clause-lost g c =
     (IsLossWhere-weaker _ _ sha256 (g.K.Keeper.told c.args.keeper.now) (g.L.Link.told c.args.link.now) c.in_err-blocks.field-0.0
     (λ t object kept named. (named.0, Contains-resize_tail c.args.block_size c.args.longer c.args.size (stored_in t c.args.inode) named.0 named.1, named.2))
     c.in_err-blocks.ensures.lost)
+
+pub returns-then-within-eq0-clause-below : goal.returns-then-within-eq0-clause-below
+returns-then-within-eq0-clause-below g c =
+    All-same (λ (b : NewBlock). b.blockno * c.args.block_size < c.args.longer) c.into_vec.result.items c.in_ok-blocks.blocks c.into_vec.ensures
+    (All-begin c.args.longer c.args.block_size c.args.longer c.in_ok-blocks.blocks c.requires.block (omega arith) c.in_ok-blocks.ensures.before)
 
 pub returns-then-within-eq0-clause-stored : goal.returns-then-within-eq0-clause-stored
 returns-then-within-eq0-clause-stored g c =
@@ -38,6 +43,12 @@ returns-in_err-block-clause-lost g c =
     (λ t. Contains-resize_last c.args.block_size c.args.longer c.args.size (stored_in t c.args.inode) c.if-within-eq0.false)
     (IsLossWhere-same _ sha256 (g.K.Keeper.told c.args.keeper.now) _ (g.L.Link.told c.args.link.now) _ c.in_err-block.field-0.0
     c.in_ok-blocks.ensures.keeper_same c.in_ok-blocks.ensures.link_same c.in_err-block.ensures.lost))
+
+pub returns-clause-below : goal.returns-clause-below
+returns-clause-below g c =
+    All-pushed (λ (b : NewBlock). b.blockno * c.args.block_size < c.args.longer) c.in_ok-blocks.blocks c.into_vec-2.result.items c.in_ok-block.block (c.into_vec-2.ensures ∙ c.in_ok-push.ensures.ok)
+    (All-begin c.args.longer c.args.block_size c.args.longer c.in_ok-blocks.blocks c.requires.block (omega arith) c.in_ok-blocks.ensures.before)
+    (subst (λ n. n * c.args.block_size < c.args.longer) (sym c.in_ok-block.ensures.blockno) (begins-last c.args.longer c.args.block_size c.requires.block c.if-within-eq0.false))
 
 pub returns-clause-short : goal.returns-clause-short
 returns-clause-short g c =

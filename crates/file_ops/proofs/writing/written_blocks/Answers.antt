@@ -1,4 +1,4 @@
-use Rattle.std.proofs.Common.{◌≡◌, ◌≤◌, ◌<◌, ◌/◌, ◌+◌, List, ℕ, length, sym, ◌∙◌, arith}
+use Rattle.std.proofs.Common.{◌≡◌, ◌≤◌, ◌<◌, ◌*◌, ◌/◌, ◌+◌, List, ℕ, length, sym, ◌∙◌, subst, arith}
 use Rattle.std.proofs.lemmas.List.{append-nil}
 use Rattle.std.proofs.lemmas.List.Elements.{Contains-append_left, Contains-append_right}
 use Rattle.std.proofs.lemmas.Result.{err_from_is_err_and}
@@ -13,7 +13,7 @@ use Rattle.file_ops.specs.FileBytes.{stored_in}
 use Rattle.file_ops.specs.declared.new_block.NewBlock.{NewBlock}
 use Rattle.file_ops.proofs.BothTold.{IfFile-same, IfFile-weaker, IfFile-weaker2}
 use Rattle.file_ops.proofs.Losses.{IsLossWhere-same, IsLossWhere-weaker}
-use Rattle.file_ops.proofs.Needed.{All-pushed, AreBlocksOf-before_write, Contains-filter, not_overwritten-before, numbers_of-push, tail_before-lt}
+use Rattle.file_ops.proofs.Needed.{All-begin, All-pushed, AreBlocksOf-before_write, begins-piece, Contains-filter, not_overwritten-before, numbers_of-push, tail_before-lt}
 use Rattle.file_ops.proofs.Ranges.{Contains-numbers_from}
 use Rattle.file_ops.proofs.writing.written_blocks.Goals as goal
 
@@ -64,6 +64,7 @@ loop-k-init g c =
           IfTold-weaker (g.K.Keeper.told c.args.keeper.now) _ _
           (λ t is. is ∙ sym (append-nil (tail_before c.args.block_size c.args.size (c.args.off + count) first (stored_in t c.args.inode))))
           c.in_ok-blocks.ensures.numbers;
+      below = All-begin c.args.off c.args.block_size (c.args.off + count) c.in_ok-blocks.blocks c.requires.block (omega arith) c.in_ok-blocks.ensures.before;
       short = c.in_ok-blocks.ensures.short;
       stored =
           IfFile-weaker (g.K.Keeper.told c.args.keeper.now) (g.L.Link.told c.args.link.now) c.args.inode c.args.size c.args.block_size _ _
@@ -75,6 +76,7 @@ pub loop-k-preserved : goal.loop-k-preserved
 loop-k-preserved g c =
     let count : ℕ = length c.args.new.now in
     let first : ℕ = c.args.off / c.args.block_size in
+    let low : c.loop-k.k < piece_count c.args.off count c.args.block_size = omega (arith, c.loop-k-test.true, c.count-pieces.ensures.count) in
     record {
       keeper_same = c.in_ok-block.ensures.keeper_same ∙ c.loop-k.invariant.keeper_same;
       link_same = c.in_ok-block.ensures.link_same ∙ c.loop-k.invariant.link_same;
@@ -86,6 +88,10 @@ loop-k-preserved g c =
           numbers_of-push c.loop-k.blocks c.push.new.self c.in_ok-block.block (tail_before c.args.block_size c.args.size (c.args.off + count) first (stored_in t c.args.inode))
           first c.loop-k.k c.in_ok-push.ensures.ok c.in_ok-block.ensures.blockno so_far)
           c.loop-k.invariant.numbers;
+      below =
+          All-pushed (λ (b : NewBlock). b.blockno * c.args.block_size < c.args.off + count) c.loop-k.blocks c.push.new.self c.in_ok-block.block c.in_ok-push.ensures.ok
+          c.loop-k.invariant.below
+          (subst (λ n. n * c.args.block_size < c.args.off + count) (sym c.in_ok-block.ensures.blockno) (begins-piece c.args.off c.args.block_size c.loop-k.k count low));
       short =
           All-pushed (λ (b : NewBlock). length b.stored ≤ c.args.block_size) c.loop-k.blocks c.push.new.self c.in_ok-block.block c.in_ok-push.ensures.ok
           c.loop-k.invariant.short c.in_ok-block.ensures.short;

@@ -1,4 +1,5 @@
-use Rattle.std.proofs.Common.{◌≡◌, ◌+◌, ◌/◌, ◌≤◌, ◌++◌, length}
+use Rattle.std.proofs.Common.{◌≡◌, ◌+◌, ◌*◌, ◌/◌, ◌<◌, ◌≤◌, ◌++◌, length}
+use Rattle.std.specs.Prelude.{All}
 use Rattle.block_math.specs.Changes.{written_at}
 use Rattle.core_model.specs.Changes.{numbers_from, tail_before}
 use Rattle.s3_rows.specs.Told.{IfTold}
@@ -17,6 +18,7 @@ invariant-loop-k g l = record {
       IfTold (g.K.Keeper.told l.fn.keeper)
       (λ t. numbers_of l.blocks
       ≡ tail_before l.block_size l.size (l.off + length l.new) (l.off / l.block_size) (stored_in t l.inode) ++ numbers_from (l.off / l.block_size) l.k);
+  below : All (λ b. b.blockno * l.block_size < l.off + length l.new) l.blocks;
   short : AreShort l.block_size l.blocks;
   stored :
       IfFile (g.K.Keeper.told l.fn.keeper) (g.L.Link.told l.fn.link) l.inode l.size l.block_size
