@@ -1,8 +1,7 @@
 -- What the counts of places make of tables.
-use Rattle.std.proofs.Common.{◌≡◌, ℕ, ◌+◌, ◌≤◌, ◌<◌, ◌^◌, List, [], ◌∷◌, ◌++◌, length, Bool, true, false, cond, Option, None, Some, refl, sym, ap, ◌∙◌, subst, arith, eqb-true}
-use Rattle.std.specs.Prelude.{IsTrue, ◌==◌, is_some, nat_lt, not, option_map}
+use Rattle.std.proofs.Common.{◌≡◌, ℕ, ◌+◌, ◌≤◌, ◌<◌, ◌^◌, List, [], ◌∷◌, ◌++◌, Bool, true, false, cond, Option, None, Some, refl, sym, ap, ◌∙◌, subst, arith, eqb-true}
+use Rattle.std.specs.Prelude.{IsTrue, is_some, nat_lt, not, option_map}
 use Rattle.std.specs.List.{list_all}
-use Rattle.std.specs.Option.{option_or}
 use Rattle.std.specs.Ordering.{is_eq, nat_cmp}
 use Rattle.std.proofs.lemmas.Bool.Decides.{nat_tests}
 use Rattle.std.proofs.lemmas.Cmp.{nat_cmp_total}
@@ -10,7 +9,7 @@ use Rattle.s3_rows.specs.declared.change.Change.{Change}
 use Rattle.s3_rows.specs.declared.change.Change.TheVariants as changes
 use Rattle.s3_rows.specs.declared.digest.Digest.{Digest}
 use Rattle.s3_rows.specs.Rows.{Block, Object, Parameters}
-use Rattle.s3_rows.specs.Keyed.{has_key, put}
+use Rattle.s3_rows.specs.Keyed.{put}
 use Rattle.s3_rows.specs.Tables.{Tables, IsOrdered, by_block, by_object}
 use Rattle.s3_rows.specs.Batches.{tables_after}
 use Rattle.s3_rows.specs.Selections.{block_at, block_of_digest, bytes_cmp, object_at}

@@ -1,23 +1,13 @@
 -- What the store holds of placed blocks.
-use Rattle.std.proofs.Common.{◌≡◌, ℕ, suc, ◌+◌, ◌≤◌, ◌<◌, ◌^◌, List, [], ◌∷◌, ◌++◌, length, Bool, true, false, cond, Option, None, Some, refl, sym, ap, ◌∙◌, subst, count_by, arith, eqb-true, eq-eqb, ltb-true}
-use Rattle.std.specs.Prelude.{IsTrue, ◌==◌, ◌||◌, ◌&&◌, is_some, nat_lt}
+use Rattle.std.proofs.Common.{◌≡◌, ℕ, suc, ◌+◌, ◌≤◌, ◌<◌, List, [], ◌∷◌, ◌++◌, Bool, true, false, cond, Option, None, Some, refl, ap, ◌∙◌, count_by, arith, eqb-true, eq-eqb}
+use Rattle.std.specs.Prelude.{IsTrue, ◌||◌}
 use Rattle.std.specs.List.{list_all, list_any}
-use Rattle.std.specs.Ordering.{is_eq}
 use Rattle.std.proofs.lemmas.Bool.{and_parts}
 use Rattle.std.proofs.lemmas.List.Sums.{sum_by-cons}
-use Rattle.s3_rows.specs.declared.change.Change.{Change}
-use Rattle.s3_rows.specs.Rows.{Block, Object, Parameters}
-use Rattle.s3_rows.specs.Stores.{AreHeld, IsHeld}
-use Rattle.s3_rows.specs.Keyed.{put}
-use Rattle.s3_rows.specs.Tables.{Tables, by_block, by_object}
-use Rattle.s3_rows.specs.Batches.{tables_after}
-use Rattle.s3_rows.specs.Selections.{block_of_digest, object_at}
-use Rattle.s3_rows.specs.Validity.{counts_object}
-use Rattle.row_lemmas.proofs.Sums.{list_any_from_count_by}
-use Rattle.row_lemmas.proofs.Tests.{is_eq-nat_cmp}
-use Rattle.row_lemmas.proofs.Keyed.RowAt.{row_at_key, row_at_passes}
-use Rattle.tree_rows.specs.Contents.{Contents, bytes_of}
-use Rattle.core_model.specs.Safe.{HaveHeld, Held, new_object, with_new_objects}
+use Rattle.s3_rows.specs.Rows.{Block}
+use Rattle.s3_rows.specs.Tables.{Tables}
+use Rattle.tree_rows.specs.Contents.{Contents}
+use Rattle.core_model.specs.Safe.{Held}
 use Rattle.core_model.specs.Occurring.{Knows, is_stored}
 use Rattle.file_ops.specs.declared.new_block.NewBlock.{NewBlock}
 use Rattle.file_ops.specs.declared.place.Place.{Place}

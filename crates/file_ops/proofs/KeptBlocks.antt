@@ -1,6 +1,6 @@
 -- What holds of all block rows, and of the new ones, holds of them once blocks are placed.
-use Rattle.std.proofs.Common.{◌≡◌, ℕ, List, [], ◌∷◌, ◌++◌, length, Bool, true, false, cond, Option, None, Some, refl, sym, ap, ◌∙◌, subst, eqb-true}
-use Rattle.std.specs.Prelude.{IsTrue, option_map}
+use Rattle.std.proofs.Common.{◌≡◌, ℕ, List, [], ◌∷◌, ◌++◌, length, true, cond, Option, None, Some, refl, sym, ap, ◌∙◌, subst, eqb-true}
+use Rattle.std.specs.Prelude.{option_map}
 use Rattle.std.specs.Ordering.{is_eq}
 use Rattle.std.specs.declared.cmp.Ordering.{Ordering}
 use Rattle.std.specs.declared.cmp.Ordering.TheVariants.{Less, Equal, Greater}
@@ -13,7 +13,7 @@ use Rattle.s3_rows.specs.Batches.{tables_after}
 use Rattle.s3_rows.specs.Selections.{block_at}
 use Rattle.row_lemmas.proofs.Tables.{IsOrdered-tables_after, tables_after-tables_after}
 use Rattle.row_lemmas.proofs.Tests.{is_eq-nat_cmp}
-use Rattle.row_lemmas.proofs.Keyed.RowAt.{row_at_key, row_at_meets}
+use Rattle.row_lemmas.proofs.Keyed.RowAt.{row_at_key}
 use Rattle.tree_rows.specs.Contents.{Contents, HaveBytes, bytes_of}
 use Rattle.core_model.specs.Safe.{HaveHeld, Held}
 use Rattle.core_model.specs.Occurring.{Knows, is_stored}

@@ -1,12 +1,12 @@
 -- Places that name their blocks, once all of these are counted.
-use Rattle.std.proofs.Common.{◌≡◌, ℕ, suc, ◌+◌, ◌≤◌, ◌<◌, ◌^◌, List, [], ◌∷◌, ◌++◌, length, Bool, true, false, cond, Option, None, Some, refl, sym, ap, ◌∙◌, subst, count_by, arith}
+use Rattle.std.proofs.Common.{◌≡◌, ℕ, suc, ◌+◌, ◌≤◌, ◌^◌, List, [], ◌∷◌, ◌++◌, length, Bool, true, false, Option, None, Some, refl, sym, ap, ◌∙◌, subst, count_by, arith}
 use Rattle.std.specs.Prelude.{IsTrue, Contains, ◌==◌, ◌&&◌, ◌||◌, find, nat_le, not, option_and_then, option_map}
 use Rattle.std.specs.List.{list_all, list_any}
 use Rattle.std.specs.Ordering.{is_eq}
 use Rattle.s3_rows.specs.declared.change.Change.{Change}
 use Rattle.s3_rows.specs.Rows.{Block, Inode, Object, Parameters}
 use Rattle.s3_rows.specs.Keyed.{rises, row_at}
-use Rattle.s3_rows.specs.Tables.{Tables, by_block, by_inode, by_object}
+use Rattle.s3_rows.specs.Tables.{Tables, by_block, by_object}
 use Rattle.s3_rows.specs.Batches.{tables_after}
 use Rattle.s3_rows.specs.Selections.{block_at, bytes_cmp, object_at}
 use Rattle.s3_rows.specs.Validity.{IsValid, differ, has_inode, is_in_file, is_regular}
@@ -22,7 +22,7 @@ use Rattle.block_steps.specs.Owed.{KeepsNames, OwesPlaces, times}
 use Rattle.block_steps.specs.Places.{Places, blocks_named, is_among_places, places_relinked}
 use Rattle.file_ops.specs.declared.new_block.NewBlock.{NewBlock}
 use Rattle.file_ops.specs.declared.place.Place.{Place}
-use Rattle.file_ops.specs.Placed.{AreCounted, ArePlaceable, ArePlaced, AreReady, HaveTheirForms, KnowsBlocks, WerePlaced, is_placed, links_of, places_counted, with_drawn, with_next_block}
+use Rattle.file_ops.specs.Placed.{AreCounted, ArePlaceable, ArePlaced, AreReady, HaveTheirForms, KnowsBlocks, WerePlaced, links_of, places_counted, with_drawn, with_next_block}
 use Rattle.file_ops.specs.Resolved.{is_new, next_after, place_for, resolved}
 use Rattle.file_ops.proofs.CountedPlaces.{AreCounting, CountLaws}
 use Rattle.file_ops.proofs.KeptBlocks.{HasItsBytes, HaveBytes-put, KeptLaws, counted_keeps, new_have_bytes}

@@ -1,5 +1,5 @@
 -- Objects that are of no new block.
-use Rattle.std.proofs.Common.{◌≡◌, ℕ, List, [], false, Option, None, Some, sym, ap, ◌∙◌, subst}
+use Rattle.std.proofs.Common.{◌≡◌, ℕ, List, [], false, Option, None, Some, sym, ap, ◌∙◌}
 use Rattle.std.specs.List.{list_any}
 use Rattle.s3_rows.specs.Rows.{Parameters}
 use Rattle.s3_rows.specs.Tables.{Tables}

@@ -3,7 +3,7 @@ use Rattle.std.proofs.Common.{◌≡◌, ℕ, zero, suc, ◌+◌, ◌≤◌, ◌
 use Rattle.std.specs.Prelude.{IsTrue, ◌==◌, nat_le, option_and_then, option_map}
 use Rattle.std.specs.List.{list_all}
 use Rattle.std.specs.Option.{option_or}
-use Rattle.std.specs.Ordering.{is_eq, nat_cmp}
+use Rattle.std.specs.Ordering.{is_eq}
 use Rattle.std.proofs.lemmas.Bool.{and_parts}
 use Rattle.std.proofs.lemmas.Bool.Decides.{nat_tests}
 use Rattle.std.proofs.lemmas.Cmp.{nat_cmp_total}
@@ -11,23 +11,23 @@ use Rattle.std.proofs.lemmas.List.{append-nil, append_assoc}
 use Rattle.std.proofs.lemmas.List.Sums.{sum_by-cons}
 use Rattle.s3_rows.specs.declared.change.Change.{Change}
 use Rattle.s3_rows.specs.declared.digest.Digest.{Digest}
-use Rattle.s3_rows.specs.Rows.{Block, Object, Parameters}
-use Rattle.s3_rows.specs.Keyed.{put, rises}
+use Rattle.s3_rows.specs.Rows.{Block, Parameters}
+use Rattle.s3_rows.specs.Keyed.{rises}
 use Rattle.s3_rows.specs.Tables.{Tables, by_block, by_object}
 use Rattle.s3_rows.specs.Batches.{tables_after}
-use Rattle.s3_rows.specs.Selections.{block_at, block_of_digest, bytes_cmp, object_at}
+use Rattle.s3_rows.specs.Selections.{block_of_digest, bytes_cmp, object_at}
 use Rattle.row_lemmas.proofs.Tables.{tables_after-tables_after}
 use Rattle.row_lemmas.proofs.Tests.{is_eq-nat_cmp}
 use Rattle.row_lemmas.proofs.Keyed.Put.{row_at-put}
 use Rattle.row_lemmas.proofs.Keyed.RowAt.{row_at_from_find}
 use Rattle.core_model.specs.Safe.{new_object, with_new_object, with_new_objects}
-use Rattle.block_steps.specs.Owed.{OwesPlaces, KeepsNames, times}
+use Rattle.block_steps.specs.Owed.{times}
 use Rattle.block_steps.specs.Places.{block_made, blocks_named}
 use Rattle.file_ops.specs.declared.new_block.NewBlock.{NewBlock}
 use Rattle.file_ops.specs.declared.place.Place.{Place}
 use Rattle.file_ops.specs.declared.place.Place.TheVariants as places
 use Rattle.file_ops.specs.Placed.{links_of, place_counted, places_counted, with_next_block}
-use Rattle.file_ops.specs.Resolved.{digest_for, is_new, known_or_new, known_row, new_row, new_with, next_after, place_for, resolved}
+use Rattle.file_ops.specs.Resolved.{digest_for, is_new, known_or_new, new_row, new_with, next_after, place_for, resolved}
 use Rattle.file_ops.proofs.CountedPlaces.{AreCounting, CountLaws, HaveForms-new_with, counting_known, counting_new, counting_zeros}
 use Rattle.file_ops.proofs.Drawn.{params-with_new_objects, with_new_objects-suc}
 

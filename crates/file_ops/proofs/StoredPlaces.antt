@@ -1,5 +1,5 @@
 -- What the store holds of all rows once blocks are placed.
-use Rattle.std.proofs.Common.{◌≡◌, ℕ, ◌+◌, ◌≤◌, ◌<◌, ◌^◌, List, [], ◌∷◌, Bool, true, false, Option, None, Some, refl, sym, ap, ◌∙◌, subst, count_by, arith, eqb-true, ltb-true}
+use Rattle.std.proofs.Common.{◌≡◌, ℕ, ◌+◌, ◌≤◌, ◌<◌, ◌^◌, List, [], Bool, true, false, Option, None, Some, refl, sym, ap, ◌∙◌, subst, count_by, arith, eqb-true, ltb-true}
 use Rattle.std.specs.Prelude.{IsTrue, ◌==◌, is_some, nat_lt}
 use Rattle.std.specs.List.{list_any}
 use Rattle.std.specs.Ordering.{is_eq}
@@ -23,8 +23,8 @@ use Rattle.core_model.specs.Occurring.{Knows, is_stored}
 use Rattle.block_steps.specs.Places.{places_relinked}
 use Rattle.file_ops.specs.declared.new_block.NewBlock.{NewBlock}
 use Rattle.file_ops.specs.declared.place.Place.{Place}
-use Rattle.file_ops.specs.Placed.{ArePlaceable, ArePut, KnowsBlocks, WerePlaced, is_object_of, links_of, places_counted, with_drawn, with_next_block}
-use Rattle.file_ops.specs.Resolved.{is_new, new_row, resolved}
+use Rattle.file_ops.specs.Placed.{ArePlaceable, ArePut, KnowsBlocks, WerePlaced, is_object_of, links_of, places_counted, with_drawn}
+use Rattle.file_ops.specs.Resolved.{is_new, resolved}
 use Rattle.file_ops.proofs.CountedPlaces.{CountLaws}
 use Rattle.file_ops.proofs.HeldPlaces.{AllSo-any, AllSo-known, any_all, new_in_range, new_rows_ok}
 use Rattle.file_ops.proofs.KeptBlocks.{KeptLaws, counted_keeps}

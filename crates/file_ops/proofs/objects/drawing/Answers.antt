@@ -1,4 +1,4 @@
-use Rattle.std.proofs.Common.{◌∷◌, [], ◌+◌, ◌++◌, ◌∙◌, refl, ap, sym, arith}
+use Rattle.std.proofs.Common.{◌∷◌, [], ◌+◌, ◌++◌, ◌∙◌, refl, ap}
 use Rattle.s3_rows.specs.declared.change.Change.TheVariants as changes
 use Rattle.s3_rows.specs.Rows.{Parameters}
 use Rattle.file_ops.proofs.Drawn.{drawn_more}

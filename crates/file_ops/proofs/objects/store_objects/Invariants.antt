@@ -1,4 +1,4 @@
-use Rattle.std.proofs.Common.{◌≤◌, drop}
+use Rattle.std.proofs.Common.{◌≤◌}
 use Rattle.s3_devices.specs.Told.{Becomes}
 use Rattle.file_ops.proofs.PutObjects.{ArePartlyPut}
 use Rattle.file_ops.proofs.objects.store_objects.Given as goal

@@ -1,10 +1,5 @@
-use Rattle.std.proofs.Common.{◌++◌, ◌∷◌, List, drop, ◌∙◌, ap, sym, arith}
-use Rattle.s3_rows.specs.Batches.{tables_after}
+use Rattle.std.proofs.Common.{◌∙◌, arith}
 use Rattle.ref_counts.proofs.Told.{IfTold-same, IfTold-weaker2}
-use Rattle.block_steps.specs.Places.{places_relinked}
-use Rattle.file_ops.specs.declared.new_block.NewBlock.{NewBlock}
-use Rattle.file_ops.specs.declared.place.Place.{Place}
-use Rattle.file_ops.specs.Placed.{links_of}
 use Rattle.file_ops.proofs.Left.{drop_here}
 use Rattle.file_ops.proofs.Linking.{linked_more}
 use Rattle.file_ops.proofs.placing.relink_places.Goals as goal
