@@ -1,7 +1,11 @@
 mod BothTold
+mod ChangedNumbers
 mod CountedPlaces
 mod Counting
+mod CutFiles
 mod Drawn
+mod FileForms
+mod FileSteps
 mod FoundPlaces
 mod HeldPlaces
 mod KeptBlocks
@@ -19,3 +23,4 @@ mod Puts
 mod Ranges
 mod StoredPlaces
 mod Trimmed
+mod WrittenFiles

@@ -1,4 +1,5 @@
 pub mod FileBytes
+pub mod FileChanges
 pub mod FileFaults
 pub mod Loads
 pub mod NewBlocks

@@ -2,6 +2,7 @@
 //! a file, and what puts new blocks and lets places name them.
 #![tactic(auto)]
 
+mod changing;
 mod file_fault;
 mod laws;
 mod load_fault;
@@ -17,6 +18,7 @@ mod stored;
 mod tests;
 mod writing;
 
+pub use changing::{resize_file, write_file};
 pub use file_fault::FileFault;
 pub use load_fault::LoadFault;
 pub use loading::load;

@@ -1,0 +1,52 @@
+use Rattle.std.proofs.Common.{ap, sym}
+use Rattle.sha2.specs.Sha256.{sha256}
+use Rattle.s3_rows.specs.Rows.{Inode}
+use Rattle.s3_rows.specs.Stores.{AreHeld}
+use Rattle.s3_devices.specs.Keys.{objects_in}
+use Rattle.core_model.specs.Safe.{HaveHeld}
+use Rattle.ref_counts.proofs.Told.{IfTold-same, IfTold-weaker2, IfTold-weaker3}
+use Rattle.file_ops.proofs.CutFiles.{CutLaws, first_placeable, held_cut, in_file_cut}
+use Rattle.file_ops.proofs.PutObjects.{Becomes-follows}
+use Rattle.file_ops.proofs.changing.place_and_cut.Goals as goal
+
+pub returns-clause-placed : goal.returns-clause-placed
+returns-clause-placed g c =
+    let laws : CutLaws = record { valid = c.files_take_other_lengths.ensures.valid; forms = c.lengths_leave_forms.ensures.forms; kept = c.lengths_leave_forms.ensures.kept; known = c.kept_rows_keep_what_is_held.ensures.known } in
+    IfTold-same (g.K.Keeper.told c.drop_links.new.keeper) (g.K.Keeper.told c.place_blocks.new.keeper) _ (sym c.in_ok-drop_links.ensures.same)
+    (IfTold-weaker3 (g.K.Keeper.told c.place_blocks.new.keeper) _ _ _ _
+    (λ t places forms drops there less are.
+    in_file_cut laws sha256 t c.new-batch.result c.place_blocks.new.batch c.drop_links.new.batch c.push.new.self c.args.file.now c.with_length.result c.file.inside.id c.file.inside.id c.args.size c.args.now c.args.block_size
+    c.first_past.result c.args.blocks.now (ap (λ (r : Inode). r.id) c.file.view_is) (ap (λ (r : Inode). r.id) c.file.view_is) c.new-batch.ensures c.with_length.ensures there less are drops c.in_ok-push.ensures.ok c.first_past.ensures.past c.first_past.ensures.within places forms)
+    c.in_ok-place_blocks.ensures.placed c.in_ok-place_blocks.ensures.forms c.in_ok-drop_links.ensures.dropped)
+
+pub returns-clause-held : goal.returns-clause-held
+returns-clause-held g c =
+    let laws : CutLaws = record { valid = c.files_take_other_lengths.ensures.valid; forms = c.lengths_leave_forms.ensures.forms; kept = c.lengths_leave_forms.ensures.kept; known = c.kept_rows_keep_what_is_held.ensures.known } in
+    IfTold-same (g.K.Keeper.told c.drop_links.new.keeper) (g.K.Keeper.told c.place_blocks.new.keeper) _ (sym c.in_ok-drop_links.ensures.same)
+    (IfTold-weaker2 (g.K.Keeper.told c.place_blocks.new.keeper) _ _ _
+    (λ t holds drops there less are.
+    Becomes-follows _ _
+    (λ o after held before.
+    held_cut laws sha256 t c.new-batch.result c.place_blocks.new.batch c.drop_links.new.batch c.push.new.self c.args.file.now c.with_length.result c.file.inside.id c.file.inside.id c.args.size c.args.now c.args.block_size
+    c.first_past.result c.args.blocks.now (ap (λ (r : Inode). r.id) c.file.view_is) (ap (λ (r : Inode). r.id) c.file.view_is) c.new-batch.ensures c.with_length.ensures there less are drops c.in_ok-push.ensures.ok
+    (AreHeld sha256 (objects_in after)) (c.kept_rows_keep_what_is_held.ensures.stored sha256 (objects_in after)) (held before))
+    (g.L.Link.told c.args.link.now) (g.L.Link.told c.place_blocks.new.link)
+    (holds (first_placeable laws sha256 t c.new-batch.result c.place_blocks.new.batch c.drop_links.new.batch c.push.new.self c.args.file.now c.with_length.result c.file.inside.id c.file.inside.id c.args.size c.args.now c.args.block_size
+    c.first_past.result c.args.blocks.now (ap (λ (r : Inode). r.id) c.file.view_is) (ap (λ (r : Inode). r.id) c.file.view_is) c.new-batch.ensures c.with_length.ensures there less are drops c.in_ok-push.ensures.ok)))
+    c.in_ok-place_blocks.ensures.held c.in_ok-drop_links.ensures.dropped)
+
+pub returns-clause-bytes_held : goal.returns-clause-bytes_held
+returns-clause-bytes_held g c =
+    let laws : CutLaws = record { valid = c.files_take_other_lengths.ensures.valid; forms = c.lengths_leave_forms.ensures.forms; kept = c.lengths_leave_forms.ensures.kept; known = c.kept_rows_keep_what_is_held.ensures.known } in
+    IfTold-same (g.K.Keeper.told c.drop_links.new.keeper) (g.K.Keeper.told c.place_blocks.new.keeper) _ (sym c.in_ok-drop_links.ensures.same)
+    (IfTold-weaker2 (g.K.Keeper.told c.place_blocks.new.keeper) _ _ _
+    (λ t holds drops there less are m knows.
+    Becomes-follows _ _
+    (λ o after held before.
+    held_cut laws sha256 t c.new-batch.result c.place_blocks.new.batch c.drop_links.new.batch c.push.new.self c.args.file.now c.with_length.result c.file.inside.id c.file.inside.id c.args.size c.args.now c.args.block_size
+    c.first_past.result c.args.blocks.now (ap (λ (r : Inode). r.id) c.file.view_is) (ap (λ (r : Inode). r.id) c.file.view_is) c.new-batch.ensures c.with_length.ensures there less are drops c.in_ok-push.ensures.ok
+    (HaveHeld m (objects_in after)) (c.kept_rows_keep_what_is_held.ensures.held m (objects_in after)) (held before))
+    (g.L.Link.told c.args.link.now) (g.L.Link.told c.place_blocks.new.link)
+    (holds (first_placeable laws sha256 t c.new-batch.result c.place_blocks.new.batch c.drop_links.new.batch c.push.new.self c.args.file.now c.with_length.result c.file.inside.id c.file.inside.id c.args.size c.args.now c.args.block_size
+    c.first_past.result c.args.blocks.now (ap (λ (r : Inode). r.id) c.file.view_is) (ap (λ (r : Inode). r.id) c.file.view_is) c.new-batch.ensures c.with_length.ensures there less are drops c.in_ok-push.ensures.ok) m knows))
+    c.in_ok-place_blocks.ensures.bytes_held c.in_ok-drop_links.ensures.dropped)

@@ -1,0 +1,39 @@
+use Rattle.std.proofs.Common.{◌≡◌, ◌∷◌, ◌++◌, [], List, ap, ◌∙◌}
+use Rattle.sha2.specs.Sha256.{sha256}
+use Rattle.s3_rows.specs.declared.change.Change.{Change}
+use Rattle.s3_rows.specs.declared.change.Change.TheVariants as changes
+use Rattle.s3_rows.specs.Rows.{Inode}
+use Rattle.ref_counts.proofs.Told.{IfTold-weaker, IfTold-weaker2}
+use Rattle.file_ops.specs.FileChanges.{with_length}
+use Rattle.file_ops.proofs.FileSteps.{LongerLaws, placeable_row, placed_in_file}
+use Rattle.file_ops.proofs.changing.place_within.Goals as goal
+
+pub returns-clause-placed : goal.returns-clause-placed
+returns-clause-placed g c =
+    let laws : LongerLaws = record { longer = c.files_take_other_lengths.ensures.longer; forms = c.lengths_leave_forms.ensures.forms } in
+    let put : c.push.new.self ≡ changes.PutInode (with_length c.args.size c.args.now c.args.file.now) ∷ [] =
+    c.in_ok-push.ensures.ok ∙ ap (λ (l : List Change). l ++ changes.PutInode c.with_length.result ∷ []) c.new-batch.ensures ∙ ap (λ (r : Inode). changes.PutInode r ∷ []) c.with_length.ensures in
+    IfTold-weaker2 (g.K.Keeper.told c.place_blocks.new.keeper) _ _ _
+    (λ t places forms block_size there grows are.
+    placed_in_file laws sha256 t c.push.new.self c.place_blocks.new.batch c.args.file.now c.file.inside.id c.args.size c.args.now block_size c.args.blocks.now (ap (λ (r : Inode). r.id) c.file.view_is) put there grows are places forms)
+    c.in_ok-place_blocks.ensures.placed c.in_ok-place_blocks.ensures.forms
+
+pub returns-clause-held : goal.returns-clause-held
+returns-clause-held g c =
+    let laws : LongerLaws = record { longer = c.files_take_other_lengths.ensures.longer; forms = c.lengths_leave_forms.ensures.forms } in
+    let put : c.push.new.self ≡ changes.PutInode (with_length c.args.size c.args.now c.args.file.now) ∷ [] =
+    c.in_ok-push.ensures.ok ∙ ap (λ (l : List Change). l ++ changes.PutInode c.with_length.result ∷ []) c.new-batch.ensures ∙ ap (λ (r : Inode). changes.PutInode r ∷ []) c.with_length.ensures in
+    IfTold-weaker (g.K.Keeper.told c.place_blocks.new.keeper) _ _
+    (λ t holds block_size there grows are.
+    holds (placeable_row laws sha256 t c.push.new.self c.place_blocks.new.batch c.args.file.now c.file.inside.id c.args.size c.args.now block_size c.args.blocks.now (ap (λ (r : Inode). r.id) c.file.view_is) put there grows are))
+    c.in_ok-place_blocks.ensures.held
+
+pub returns-clause-bytes_held : goal.returns-clause-bytes_held
+returns-clause-bytes_held g c =
+    let laws : LongerLaws = record { longer = c.files_take_other_lengths.ensures.longer; forms = c.lengths_leave_forms.ensures.forms } in
+    let put : c.push.new.self ≡ changes.PutInode (with_length c.args.size c.args.now c.args.file.now) ∷ [] =
+    c.in_ok-push.ensures.ok ∙ ap (λ (l : List Change). l ++ changes.PutInode c.with_length.result ∷ []) c.new-batch.ensures ∙ ap (λ (r : Inode). changes.PutInode r ∷ []) c.with_length.ensures in
+    IfTold-weaker (g.K.Keeper.told c.place_blocks.new.keeper) _ _
+    (λ t holds block_size there grows are.
+    holds (placeable_row laws sha256 t c.push.new.self c.place_blocks.new.batch c.args.file.now c.file.inside.id c.args.size c.args.now block_size c.args.blocks.now (ap (λ (r : Inode). r.id) c.file.view_is) put there grows are))
+    c.in_ok-place_blocks.ensures.bytes_held

@@ -1,0 +1,189 @@
+use Rattle.std.proofs.Common.{◌≡◌, ◌≤◌, ◌∷◌, [], Option, Bool, cond, sym, ap, subst, arith}
+use Rattle.std.specs.Prelude.{◌==◌, IfErr, IfOk, IsTrue}
+use Rattle.sha2.specs.Sha256.{sha256}
+use Rattle.block_math.specs.Changes.{resized}
+use Rattle.block_math.proofs.LengthLemmas.{length-resized}
+use Rattle.core_model.specs.Changes.{blocks_of_resize}
+use Rattle.s3_rows.specs.declared.change.Change.TheVariants as changes
+use Rattle.s3_rows.specs.Batches.{tables_after}
+use Rattle.s3_rows.specs.Rows.{Inode}
+use Rattle.s3_rows.specs.Stores.{AreHeld}
+use Rattle.s3_rows.specs.Told.{IfTold, Told}
+use Rattle.s3_rows.specs.Validity.{differ}
+use Rattle.s3_devices.specs.Keys.{objects_in}
+use Rattle.s3_devices.specs.Objects.{Objects}
+use Rattle.s3_devices.specs.Told.{Becomes}
+use Rattle.ref_counts.proofs.Told.{IfTold-weaker}
+use Rattle.file_ops.specs.declared.file_fault.FileFault.TheVariants.{Worn}
+use Rattle.file_ops.specs.declared.new_block.NewBlock.{NewBlock}
+use Rattle.file_ops.specs.FileBytes.{IfFile, stored_in}
+use Rattle.file_ops.specs.FileChanges.{AreInFile, AreWorn, IsFileAt, with_length}
+use Rattle.file_ops.specs.NewBlocks.{AreBlocksOf, numbers_of}
+use Rattle.file_ops.specs.Placed.{ArePrepared, IsWornFor}
+use Rattle.file_ops.proofs.ChangedNumbers.{distinct_of_resize}
+use Rattle.file_ops.proofs.WrittenFiles.{changed_answer, grown_answer, is_less, is_not_less, less_answer, step_answer, worn_answer}
+use Rattle.file_ops.proofs.changing.resize_file.Goals as goal
+
+pub returns-then-len-file-clause-step : goal.returns-then-len-file-clause-step
+returns-then-len-file-clause-step g c =
+    let file = c.args.file.now in
+    let blocks = c.in_ok-blocks.blocks.items in
+    let before = g.K.Keeper.told c.args.keeper.now in
+    let objects = g.L.Link.told c.args.link.now in
+    let after = g.K.Keeper.told c.place_and_cut.new.keeper in
+    let numbers : IfTold before (λ t. numbers_of blocks ≡ blocks_of_resize c.args.block_size c.args.len file.size (stored_in t file.id)) =
+    subst (λ (r : Inode). IfTold before (λ t. numbers_of blocks ≡ blocks_of_resize c.args.block_size c.args.len r.size (stored_in t r.id))) c.file.view_is c.in_ok-blocks.ensures.numbers in
+    let distinct : IfTold before (λ t. IsTrue (differ (λ (a b : NewBlock). b.blockno == a.blockno) blocks)) =
+    IfTold-weaker before _ _ (λ t is. distinct_of_resize c.args.block_size c.args.len file.size (stored_in t file.id) blocks is) numbers in
+    let prepared : Becomes ArePrepared before after = subst (λ (o : Option Told). Becomes ArePrepared o after) c.in_ok-blocks.ensures.keeper_same c.place_and_cut.ensures.prepared in
+    let own : c.file.inside.size ≡ file.size = ap (λ (r : Inode). r.size) c.file.view_is in
+    let order : c.args.len ≤ file.size = omega (arith, c.if-len-file.true, own) in
+    step_answer sha256 after file (with_length c.args.len c.args.now file) c.args.block_size blocks c.place_and_cut.result
+    (less_answer before after file c.args.len c.args.block_size c.as_slice-new.result.now blocks c.as_slice-new.ensures.value prepared c.in_ok-blocks.ensures.below c.in_ok-blocks.ensures.short distinct
+    (λ bs batch t. AreInFile sha256 t (tables_after batch t) (with_length c.args.len c.args.now file) c.args.block_size bs) order c.place_and_cut.result c.place_and_cut.ensures.placed)
+
+pub returns-then-len-file-clause-held : goal.returns-then-len-file-clause-held
+returns-then-len-file-clause-held g c =
+    let file = c.args.file.now in
+    let blocks = c.in_ok-blocks.blocks.items in
+    let before = g.K.Keeper.told c.args.keeper.now in
+    let objects = g.L.Link.told c.args.link.now in
+    let after = g.K.Keeper.told c.place_and_cut.new.keeper in
+    let numbers : IfTold before (λ t. numbers_of blocks ≡ blocks_of_resize c.args.block_size c.args.len file.size (stored_in t file.id)) =
+    subst (λ (r : Inode). IfTold before (λ t. numbers_of blocks ≡ blocks_of_resize c.args.block_size c.args.len r.size (stored_in t r.id))) c.file.view_is c.in_ok-blocks.ensures.numbers in
+    let distinct : IfTold before (λ t. IsTrue (differ (λ (a b : NewBlock). b.blockno == a.blockno) blocks)) =
+    IfTold-weaker before _ _ (λ t is. distinct_of_resize c.args.block_size c.args.len file.size (stored_in t file.id) blocks is) numbers in
+    let prepared : Becomes ArePrepared before after = subst (λ (o : Option Told). Becomes ArePrepared o after) c.in_ok-blocks.ensures.keeper_same c.place_and_cut.ensures.prepared in
+    let own : c.file.inside.size ≡ file.size = ap (λ (r : Inode). r.size) c.file.view_is in
+    let order : c.args.len ≤ file.size = omega (arith, c.if-len-file.true, own) in
+    let since = g.L.Link.told c.place_and_cut.new.link in
+    subst
+    (λ (o : Option Objects). IfOk c.place_and_cut.result (λ batch. IfTold after (λ t. IsFileAt t file c.args.block_size
+    → Becomes (λ x y. AreHeld sha256 (objects_in x) t.blocks → AreHeld sha256 (objects_in y) (tables_after batch t).blocks) o since)))
+    c.in_ok-blocks.ensures.link_same
+    (less_answer before after file c.args.len c.args.block_size c.as_slice-new.result.now blocks c.as_slice-new.ensures.value prepared c.in_ok-blocks.ensures.below c.in_ok-blocks.ensures.short distinct
+    (λ bs batch t. Becomes (λ x y. AreHeld sha256 (objects_in x) t.blocks → AreHeld sha256 (objects_in y) (tables_after batch t).blocks) (g.L.Link.told c.resized_blocks.new.link) since) order c.place_and_cut.result c.place_and_cut.ensures.held)
+
+pub returns-then-len-file-clause-changed : goal.returns-then-len-file-clause-changed
+returns-then-len-file-clause-changed g c =
+    let file = c.args.file.now in
+    let blocks = c.in_ok-blocks.blocks.items in
+    let before = g.K.Keeper.told c.args.keeper.now in
+    let objects = g.L.Link.told c.args.link.now in
+    let after = g.K.Keeper.told c.place_and_cut.new.keeper in
+    let numbers : IfTold before (λ t. numbers_of blocks ≡ blocks_of_resize c.args.block_size c.args.len file.size (stored_in t file.id)) =
+    subst (λ (r : Inode). IfTold before (λ t. numbers_of blocks ≡ blocks_of_resize c.args.block_size c.args.len r.size (stored_in t r.id))) c.file.view_is c.in_ok-blocks.ensures.numbers in
+    let distinct : IfTold before (λ t. IsTrue (differ (λ (a b : NewBlock). b.blockno == a.blockno) blocks)) =
+    IfTold-weaker before _ _ (λ t is. distinct_of_resize c.args.block_size c.args.len file.size (stored_in t file.id) blocks is) numbers in
+    let prepared : Becomes ArePrepared before after = subst (λ (o : Option Told). Becomes ArePrepared o after) c.in_ok-blocks.ensures.keeper_same c.place_and_cut.ensures.prepared in
+    let own : c.file.inside.size ≡ file.size = ap (λ (r : Inode). r.size) c.file.view_is in
+    let order : c.args.len ≤ file.size = omega (arith, c.if-len-file.true, own) in
+    let stored : IfFile before objects file.id file.size c.args.block_size (λ old. AreBlocksOf c.args.block_size (resized c.args.len old) blocks) =
+    subst (λ (r : Inode). IfFile before objects r.id r.size c.args.block_size (λ old. AreBlocksOf c.args.block_size (resized c.args.len old) blocks)) c.file.view_is c.in_ok-blocks.ensures.stored in
+    changed_answer sha256 before objects file c.args.block_size blocks (resized c.args.len) (λ stored. blocks_of_resize c.args.block_size c.args.len file.size stored) numbers stored
+    after c.args.len c.args.now c.place_and_cut.result prepared (λ old long. length-resized c.args.len old)
+    (less_answer before after file c.args.len c.args.block_size c.as_slice-new.result.now blocks c.as_slice-new.ensures.value prepared c.in_ok-blocks.ensures.below c.in_ok-blocks.ensures.short distinct
+    (λ bs batch t. AreInFile sha256 t (tables_after batch t) (with_length c.args.len c.args.now file) c.args.block_size bs) order c.place_and_cut.result c.place_and_cut.ensures.placed)
+
+pub returns-then-len-file-clause-worn : goal.returns-then-len-file-clause-worn
+returns-then-len-file-clause-worn g c =
+    let file = c.args.file.now in
+    let blocks = c.in_ok-blocks.blocks.items in
+    let before = g.K.Keeper.told c.args.keeper.now in
+    let objects = g.L.Link.told c.args.link.now in
+    let numbers : IfTold before (λ t. numbers_of blocks ≡ blocks_of_resize c.args.block_size c.args.len file.size (stored_in t file.id)) =
+    subst (λ (r : Inode). IfTold before (λ t. numbers_of blocks ≡ blocks_of_resize c.args.block_size c.args.len r.size (stored_in t r.id))) c.file.view_is c.in_ok-blocks.ensures.numbers in
+    let own : c.file.inside.size ≡ file.size = ap (λ (r : Inode). r.size) c.file.view_is in
+    let stored : IfFile before objects file.id file.size c.args.block_size (λ old. AreBlocksOf c.args.block_size (resized c.args.len old) blocks) =
+    subst (λ (r : Inode). IfFile before objects r.id r.size c.args.block_size (λ old. AreBlocksOf c.args.block_size (resized c.args.len old) blocks)) c.file.view_is c.in_ok-blocks.ensures.stored in
+    subst
+    (λ (b : Bool). IfErr c.place_and_cut.result (λ fault. fault ≡ Worn → IfTold before (λ t. AreWorn sha256 t objects file c.args.block_size (resized c.args.len)
+    (blocks_of_resize c.args.block_size c.args.len file.size (stored_in t file.id)) (cond b [] (changes.PutInode (with_length c.args.len c.args.now file) ∷ [])))))
+    (sym (is_less c.args.len file.size (omega (arith, c.if-len-file.true, own))))
+    (worn_answer sha256 before objects file c.args.block_size blocks (resized c.args.len) (λ stored. blocks_of_resize c.args.block_size c.args.len file.size stored) numbers stored
+    c.as_slice-new.result.now [] c.place_and_cut.result c.as_slice-new.ensures.value
+    (subst
+    (λ (o : Option Told). IfErr c.place_and_cut.result (λ fault. fault ≡ Worn → IfTold o (λ t. IsWornFor sha256 t [] c.as_slice-new.result.now)))
+    c.in_ok-blocks.ensures.keeper_same c.place_and_cut.ensures.worn))
+
+pub returns-clause-step : goal.returns-clause-step
+returns-clause-step g c =
+    let file = c.args.file.now in
+    let blocks = c.in_ok-blocks.blocks.items in
+    let before = g.K.Keeper.told c.args.keeper.now in
+    let objects = g.L.Link.told c.args.link.now in
+    let after = g.K.Keeper.told c.place_within.new.keeper in
+    let numbers : IfTold before (λ t. numbers_of blocks ≡ blocks_of_resize c.args.block_size c.args.len file.size (stored_in t file.id)) =
+    subst (λ (r : Inode). IfTold before (λ t. numbers_of blocks ≡ blocks_of_resize c.args.block_size c.args.len r.size (stored_in t r.id))) c.file.view_is c.in_ok-blocks.ensures.numbers in
+    let distinct : IfTold before (λ t. IsTrue (differ (λ (a b : NewBlock). b.blockno == a.blockno) blocks)) =
+    IfTold-weaker before _ _ (λ t is. distinct_of_resize c.args.block_size c.args.len file.size (stored_in t file.id) blocks is) numbers in
+    let prepared : Becomes ArePrepared before after = subst (λ (o : Option Told). Becomes ArePrepared o after) c.in_ok-blocks.ensures.keeper_same c.place_within.ensures.prepared in
+    let own : c.file.inside.size ≡ file.size = ap (λ (r : Inode). r.size) c.file.view_is in
+    let order : file.size ≤ c.args.len = omega (arith, c.if-len-file.false, own) in
+    step_answer sha256 after file (with_length c.args.len c.args.now file) c.args.block_size blocks c.place_within.result
+    (grown_answer before after file c.args.len c.args.block_size c.as_slice-new.result.now blocks c.as_slice-new.ensures.value prepared c.in_ok-blocks.ensures.below c.in_ok-blocks.ensures.short distinct
+    (λ n bs batch t. AreInFile sha256 t (tables_after batch t) (with_length c.args.len c.args.now file) n bs) order c.place_within.result c.place_within.ensures.placed)
+
+pub returns-clause-held : goal.returns-clause-held
+returns-clause-held g c =
+    let file = c.args.file.now in
+    let blocks = c.in_ok-blocks.blocks.items in
+    let before = g.K.Keeper.told c.args.keeper.now in
+    let objects = g.L.Link.told c.args.link.now in
+    let after = g.K.Keeper.told c.place_within.new.keeper in
+    let numbers : IfTold before (λ t. numbers_of blocks ≡ blocks_of_resize c.args.block_size c.args.len file.size (stored_in t file.id)) =
+    subst (λ (r : Inode). IfTold before (λ t. numbers_of blocks ≡ blocks_of_resize c.args.block_size c.args.len r.size (stored_in t r.id))) c.file.view_is c.in_ok-blocks.ensures.numbers in
+    let distinct : IfTold before (λ t. IsTrue (differ (λ (a b : NewBlock). b.blockno == a.blockno) blocks)) =
+    IfTold-weaker before _ _ (λ t is. distinct_of_resize c.args.block_size c.args.len file.size (stored_in t file.id) blocks is) numbers in
+    let prepared : Becomes ArePrepared before after = subst (λ (o : Option Told). Becomes ArePrepared o after) c.in_ok-blocks.ensures.keeper_same c.place_within.ensures.prepared in
+    let own : c.file.inside.size ≡ file.size = ap (λ (r : Inode). r.size) c.file.view_is in
+    let order : file.size ≤ c.args.len = omega (arith, c.if-len-file.false, own) in
+    let since = g.L.Link.told c.place_within.new.link in
+    subst
+    (λ (o : Option Objects). IfOk c.place_within.result (λ batch. IfTold after (λ t. IsFileAt t file c.args.block_size
+    → Becomes (λ x y. AreHeld sha256 (objects_in x) t.blocks → AreHeld sha256 (objects_in y) (tables_after batch t).blocks) o since)))
+    c.in_ok-blocks.ensures.link_same
+    (grown_answer before after file c.args.len c.args.block_size c.as_slice-new.result.now blocks c.as_slice-new.ensures.value prepared c.in_ok-blocks.ensures.below c.in_ok-blocks.ensures.short distinct
+    (λ n bs batch t. Becomes (λ x y. AreHeld sha256 (objects_in x) t.blocks → AreHeld sha256 (objects_in y) (tables_after batch t).blocks) (g.L.Link.told c.resized_blocks.new.link) since) order c.place_within.result c.place_within.ensures.held)
+
+pub returns-clause-changed : goal.returns-clause-changed
+returns-clause-changed g c =
+    let file = c.args.file.now in
+    let blocks = c.in_ok-blocks.blocks.items in
+    let before = g.K.Keeper.told c.args.keeper.now in
+    let objects = g.L.Link.told c.args.link.now in
+    let after = g.K.Keeper.told c.place_within.new.keeper in
+    let numbers : IfTold before (λ t. numbers_of blocks ≡ blocks_of_resize c.args.block_size c.args.len file.size (stored_in t file.id)) =
+    subst (λ (r : Inode). IfTold before (λ t. numbers_of blocks ≡ blocks_of_resize c.args.block_size c.args.len r.size (stored_in t r.id))) c.file.view_is c.in_ok-blocks.ensures.numbers in
+    let distinct : IfTold before (λ t. IsTrue (differ (λ (a b : NewBlock). b.blockno == a.blockno) blocks)) =
+    IfTold-weaker before _ _ (λ t is. distinct_of_resize c.args.block_size c.args.len file.size (stored_in t file.id) blocks is) numbers in
+    let prepared : Becomes ArePrepared before after = subst (λ (o : Option Told). Becomes ArePrepared o after) c.in_ok-blocks.ensures.keeper_same c.place_within.ensures.prepared in
+    let own : c.file.inside.size ≡ file.size = ap (λ (r : Inode). r.size) c.file.view_is in
+    let order : file.size ≤ c.args.len = omega (arith, c.if-len-file.false, own) in
+    let stored : IfFile before objects file.id file.size c.args.block_size (λ old. AreBlocksOf c.args.block_size (resized c.args.len old) blocks) =
+    subst (λ (r : Inode). IfFile before objects r.id r.size c.args.block_size (λ old. AreBlocksOf c.args.block_size (resized c.args.len old) blocks)) c.file.view_is c.in_ok-blocks.ensures.stored in
+    changed_answer sha256 before objects file c.args.block_size blocks (resized c.args.len) (λ stored. blocks_of_resize c.args.block_size c.args.len file.size stored) numbers stored
+    after c.args.len c.args.now c.place_within.result prepared (λ old long. length-resized c.args.len old)
+    (grown_answer before after file c.args.len c.args.block_size c.as_slice-new.result.now blocks c.as_slice-new.ensures.value prepared c.in_ok-blocks.ensures.below c.in_ok-blocks.ensures.short distinct
+    (λ n bs batch t. AreInFile sha256 t (tables_after batch t) (with_length c.args.len c.args.now file) n bs) order c.place_within.result c.place_within.ensures.placed)
+
+pub returns-clause-worn : goal.returns-clause-worn
+returns-clause-worn g c =
+    let file = c.args.file.now in
+    let blocks = c.in_ok-blocks.blocks.items in
+    let before = g.K.Keeper.told c.args.keeper.now in
+    let objects = g.L.Link.told c.args.link.now in
+    let numbers : IfTold before (λ t. numbers_of blocks ≡ blocks_of_resize c.args.block_size c.args.len file.size (stored_in t file.id)) =
+    subst (λ (r : Inode). IfTold before (λ t. numbers_of blocks ≡ blocks_of_resize c.args.block_size c.args.len r.size (stored_in t r.id))) c.file.view_is c.in_ok-blocks.ensures.numbers in
+    let own : c.file.inside.size ≡ file.size = ap (λ (r : Inode). r.size) c.file.view_is in
+    let stored : IfFile before objects file.id file.size c.args.block_size (λ old. AreBlocksOf c.args.block_size (resized c.args.len old) blocks) =
+    subst (λ (r : Inode). IfFile before objects r.id r.size c.args.block_size (λ old. AreBlocksOf c.args.block_size (resized c.args.len old) blocks)) c.file.view_is c.in_ok-blocks.ensures.stored in
+    subst
+    (λ (b : Bool). IfErr c.place_within.result (λ fault. fault ≡ Worn → IfTold before (λ t. AreWorn sha256 t objects file c.args.block_size (resized c.args.len)
+    (blocks_of_resize c.args.block_size c.args.len file.size (stored_in t file.id)) (cond b [] (changes.PutInode (with_length c.args.len c.args.now file) ∷ [])))))
+    (sym (is_not_less c.args.len file.size (omega (arith, c.if-len-file.false, own))))
+    (worn_answer sha256 before objects file c.args.block_size blocks (resized c.args.len) (λ stored. blocks_of_resize c.args.block_size c.args.len file.size stored) numbers stored
+    c.as_slice-new.result.now (changes.PutInode (with_length c.args.len c.args.now file) ∷ []) c.place_within.result c.as_slice-new.ensures.value
+    (subst
+    (λ (o : Option Told). IfErr c.place_within.result (λ fault. fault ≡ Worn → IfTold o (λ t. IsWornFor sha256 t (changes.PutInode (with_length c.args.len c.args.now file) ∷ []) c.as_slice-new.result.now)))
+    c.in_ok-blocks.ensures.keeper_same c.place_within.ensures.worn))

@@ -1,0 +1,119 @@
+use Rattle.std.proofs.Common.{◌≡◌, ◌+◌, ◌*◌, ◌<◌, ◌≤◌, ◌∷◌, [], ℕ, length, get_or, max, Option, sym, ap, ◌∙◌, subst, arith}
+use Rattle.std.specs.Prelude.{◌==◌, IfErr, IfOk, IsTrue}
+use Rattle.sha2.specs.Sha256.{sha256}
+use Rattle.block_math.specs.Changes.{written_at}
+use Rattle.core_model.specs.Changes.{blocks_of_write}
+use Rattle.s3_rows.specs.declared.change.Change.TheVariants as changes
+use Rattle.s3_rows.specs.Batches.{tables_after}
+use Rattle.s3_rows.specs.Rows.{Inode}
+use Rattle.s3_rows.specs.Stores.{AreHeld}
+use Rattle.s3_rows.specs.Told.{IfTold, Told}
+use Rattle.s3_rows.specs.Validity.{differ}
+use Rattle.s3_devices.specs.Keys.{objects_in}
+use Rattle.s3_devices.specs.Objects.{Objects}
+use Rattle.s3_devices.specs.Told.{Becomes}
+use Rattle.ref_counts.proofs.Told.{IfTold-weaker}
+use Rattle.file_ops.specs.declared.file_fault.FileFault.TheVariants.{Worn}
+use Rattle.file_ops.specs.declared.new_block.NewBlock.{NewBlock}
+use Rattle.file_ops.specs.FileBytes.{IfFile, stored_in}
+use Rattle.file_ops.specs.FileChanges.{AreInFile, AreWorn, IsFileAt, IsFileStep, with_length}
+use Rattle.file_ops.specs.NewBlocks.{AreBlocksOf, numbers_of}
+use Rattle.file_ops.specs.Placed.{ArePrepared, IsWornFor}
+use Rattle.file_ops.proofs.ChangedNumbers.{distinct_of_write}
+use Rattle.file_ops.proofs.WrittenFiles.{changed_answer, grown_answer, length-written, step_answer, worn_answer}
+use Rattle.file_ops.proofs.changing.write_file.Goals as goal
+
+pub returns-clause-step : goal.returns-clause-step
+returns-clause-step g c =
+    let file = c.args.file.now in
+    let count : ℕ = length c.args.new.now in
+    let blocks = c.in_ok-blocks.blocks.items in
+    let before = g.K.Keeper.told c.args.keeper.now in
+    let after = g.K.Keeper.told c.place_within.new.keeper in
+    let numbers : IfTold before (λ t. numbers_of blocks ≡ blocks_of_write c.args.block_size c.args.off count c.file.inside.size (stored_in t c.file.inside.id)) = c.in_ok-blocks.ensures.numbers in
+    let distinct : IfTold before (λ t. IsTrue (differ (λ (a b : NewBlock). b.blockno == a.blockno) blocks)) =
+    IfTold-weaker before _ _ (λ t is. distinct_of_write c.args.block_size c.args.off count c.file.inside.size (stored_in t c.file.inside.id) blocks is) numbers in
+    let prepared : Becomes ArePrepared before after = subst (λ (o : Option Told). Becomes ArePrepared o after) c.in_ok-blocks.ensures.keeper_same c.place_within.ensures.prepared in
+    let own : c.file.inside.size ≡ file.size = ap (λ (r : Inode). r.size) c.file.view_is in
+    let most : c.max.result ≡ max file.size (c.args.off + count) = c.max.ensures ∙ ap (λ (n : ℕ). max n (c.args.off + count)) own in
+    let grows : file.size ≤ c.max.result = omega (arith, most) in
+    let low : (k : ℕ) (d : NewBlock) → k < length blocks → (get_or blocks k d).blockno * c.args.block_size < c.max.result =
+    λ k d less. let begin = c.in_ok-blocks.ensures.below k d less in omega (arith, begin, most) in
+    subst (λ (n : ℕ). IfOk c.place_within.result (λ batch. IfTold after (λ t. IsFileAt t file c.args.block_size → IsFileStep t (tables_after batch t) (with_length n c.args.now file)))) most
+    (step_answer sha256 after file (with_length c.max.result c.args.now file) c.args.block_size blocks c.place_within.result
+    (grown_answer before after file c.max.result c.args.block_size c.as_slice.result.now blocks c.as_slice.ensures.value prepared low c.in_ok-blocks.ensures.short distinct
+    (λ n bs batch t. AreInFile sha256 t (tables_after batch t) (with_length c.max.result c.args.now file) n bs) grows c.place_within.result c.place_within.ensures.placed))
+
+pub returns-clause-held : goal.returns-clause-held
+returns-clause-held g c =
+    let file = c.args.file.now in
+    let count : ℕ = length c.args.new.now in
+    let blocks = c.in_ok-blocks.blocks.items in
+    let before = g.K.Keeper.told c.args.keeper.now in
+    let after = g.K.Keeper.told c.place_within.new.keeper in
+    let since = g.L.Link.told c.place_within.new.link in
+    let numbers : IfTold before (λ t. numbers_of blocks ≡ blocks_of_write c.args.block_size c.args.off count c.file.inside.size (stored_in t c.file.inside.id)) = c.in_ok-blocks.ensures.numbers in
+    let distinct : IfTold before (λ t. IsTrue (differ (λ (a b : NewBlock). b.blockno == a.blockno) blocks)) =
+    IfTold-weaker before _ _ (λ t is. distinct_of_write c.args.block_size c.args.off count c.file.inside.size (stored_in t c.file.inside.id) blocks is) numbers in
+    let prepared : Becomes ArePrepared before after = subst (λ (o : Option Told). Becomes ArePrepared o after) c.in_ok-blocks.ensures.keeper_same c.place_within.ensures.prepared in
+    let own : c.file.inside.size ≡ file.size = ap (λ (r : Inode). r.size) c.file.view_is in
+    let most : c.max.result ≡ max file.size (c.args.off + count) = c.max.ensures ∙ ap (λ (n : ℕ). max n (c.args.off + count)) own in
+    let grows : file.size ≤ c.max.result = omega (arith, most) in
+    let low : (k : ℕ) (d : NewBlock) → k < length blocks → (get_or blocks k d).blockno * c.args.block_size < c.max.result =
+    λ k d less. let begin = c.in_ok-blocks.ensures.below k d less in omega (arith, begin, most) in
+    subst
+    (λ (o : Option Objects). IfOk c.place_within.result (λ batch. IfTold after (λ t. IsFileAt t file c.args.block_size
+    → Becomes (λ x y. AreHeld sha256 (objects_in x) t.blocks → AreHeld sha256 (objects_in y) (tables_after batch t).blocks) o since)))
+    c.in_ok-blocks.ensures.link_same
+    (grown_answer before after file c.max.result c.args.block_size c.as_slice.result.now blocks c.as_slice.ensures.value prepared low c.in_ok-blocks.ensures.short distinct
+    (λ n bs batch t. Becomes (λ x y. AreHeld sha256 (objects_in x) t.blocks → AreHeld sha256 (objects_in y) (tables_after batch t).blocks) (g.L.Link.told c.written_blocks.new.link) since)
+    grows c.place_within.result c.place_within.ensures.held)
+
+pub returns-clause-changed : goal.returns-clause-changed
+returns-clause-changed g c =
+    let file = c.args.file.now in
+    let count : ℕ = length c.args.new.now in
+    let blocks = c.in_ok-blocks.blocks.items in
+    let before = g.K.Keeper.told c.args.keeper.now in
+    let objects = g.L.Link.told c.args.link.now in
+    let after = g.K.Keeper.told c.place_within.new.keeper in
+    let numbers : IfTold before (λ t. numbers_of blocks ≡ blocks_of_write c.args.block_size c.args.off count file.size (stored_in t file.id)) =
+    subst (λ (r : Inode). IfTold before (λ t. numbers_of blocks ≡ blocks_of_write c.args.block_size c.args.off count r.size (stored_in t r.id))) c.file.view_is c.in_ok-blocks.ensures.numbers in
+    let stored : IfFile before objects file.id file.size c.args.block_size (λ old. AreBlocksOf c.args.block_size (written_at c.args.off c.args.new.now old) blocks) =
+    subst (λ (r : Inode). IfFile before objects r.id r.size c.args.block_size (λ old. AreBlocksOf c.args.block_size (written_at c.args.off c.args.new.now old) blocks)) c.file.view_is c.in_ok-blocks.ensures.stored in
+    let distinct : IfTold before (λ t. IsTrue (differ (λ (a b : NewBlock). b.blockno == a.blockno) blocks)) =
+    IfTold-weaker before _ _ (λ t is. distinct_of_write c.args.block_size c.args.off count file.size (stored_in t file.id) blocks is) numbers in
+    let prepared : Becomes ArePrepared before after = subst (λ (o : Option Told). Becomes ArePrepared o after) c.in_ok-blocks.ensures.keeper_same c.place_within.ensures.prepared in
+    let own : c.file.inside.size ≡ file.size = ap (λ (r : Inode). r.size) c.file.view_is in
+    let most : c.max.result ≡ max file.size (c.args.off + count) = c.max.ensures ∙ ap (λ (n : ℕ). max n (c.args.off + count)) own in
+    let grows : file.size ≤ c.max.result = omega (arith, most) in
+    let low : (k : ℕ) (d : NewBlock) → k < length blocks → (get_or blocks k d).blockno * c.args.block_size < c.max.result =
+    λ k d less. let begin = c.in_ok-blocks.ensures.below k d less in omega (arith, begin, most) in
+    changed_answer sha256 before objects file c.args.block_size blocks (written_at c.args.off c.args.new.now) (λ stored. blocks_of_write c.args.block_size c.args.off count file.size stored) numbers stored
+    after c.max.result c.args.now c.place_within.result prepared
+    (λ old long. length-written c.args.off c.args.new.now old c.requires.some ∙ ap (λ (n : ℕ). max n (c.args.off + count)) long ∙ sym most)
+    (grown_answer before after file c.max.result c.args.block_size c.as_slice.result.now blocks c.as_slice.ensures.value prepared low c.in_ok-blocks.ensures.short distinct
+    (λ n bs batch t. AreInFile sha256 t (tables_after batch t) (with_length c.max.result c.args.now file) n bs) grows c.place_within.result c.place_within.ensures.placed)
+
+pub returns-clause-worn : goal.returns-clause-worn
+returns-clause-worn g c =
+    let file = c.args.file.now in
+    let count : ℕ = length c.args.new.now in
+    let blocks = c.in_ok-blocks.blocks.items in
+    let before = g.K.Keeper.told c.args.keeper.now in
+    let objects = g.L.Link.told c.args.link.now in
+    let numbers : IfTold before (λ t. numbers_of blocks ≡ blocks_of_write c.args.block_size c.args.off count file.size (stored_in t file.id)) =
+    subst (λ (r : Inode). IfTold before (λ t. numbers_of blocks ≡ blocks_of_write c.args.block_size c.args.off count r.size (stored_in t r.id))) c.file.view_is c.in_ok-blocks.ensures.numbers in
+    let stored : IfFile before objects file.id file.size c.args.block_size (λ old. AreBlocksOf c.args.block_size (written_at c.args.off c.args.new.now old) blocks) =
+    subst (λ (r : Inode). IfFile before objects r.id r.size c.args.block_size (λ old. AreBlocksOf c.args.block_size (written_at c.args.off c.args.new.now old) blocks)) c.file.view_is c.in_ok-blocks.ensures.stored in
+    let own : c.file.inside.size ≡ file.size = ap (λ (r : Inode). r.size) c.file.view_is in
+    let most : c.max.result ≡ max file.size (c.args.off + count) = c.max.ensures ∙ ap (λ (n : ℕ). max n (c.args.off + count)) own in
+    subst
+    (λ (n : ℕ). IfErr c.place_within.result (λ fault. fault ≡ Worn → IfTold before (λ t. AreWorn sha256 t objects file c.args.block_size (written_at c.args.off c.args.new.now)
+    (blocks_of_write c.args.block_size c.args.off count file.size (stored_in t file.id)) (changes.PutInode (with_length n c.args.now file) ∷ []))))
+    most
+    (worn_answer sha256 before objects file c.args.block_size blocks (written_at c.args.off c.args.new.now) (λ stored. blocks_of_write c.args.block_size c.args.off count file.size stored) numbers stored
+    c.as_slice.result.now (changes.PutInode (with_length c.max.result c.args.now file) ∷ []) c.place_within.result c.as_slice.ensures.value
+    (subst
+    (λ (o : Option Told). IfErr c.place_within.result (λ fault. fault ≡ Worn → IfTold o (λ t. IsWornFor sha256 t (changes.PutInode (with_length c.max.result c.args.now file) ∷ []) c.as_slice.result.now)))
+    c.in_ok-blocks.ensures.keeper_same c.place_within.ensures.worn))
