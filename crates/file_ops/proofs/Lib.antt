@@ -4,11 +4,13 @@ mod CountedPlaces
 mod Counting
 mod CutFiles
 mod Drawn
+mod DrawnFiles
 mod FileForms
 mod FileSteps
 mod FoundPlaces
 mod HeldPlaces
 mod KeptBlocks
+mod KeptObjects
 mod Left
 mod Linking
 mod Loaded

@@ -1,6 +1,6 @@
 -- What calls that change the bytes of a file answer, from what was told of its blocks and of their places.
 use Rattle.std.proofs.Common.{◌≡◌, ℕ, ◌+◌, ◌*◌, ◌<◌, ◌≤◌, List, length, max, true, false, Option, None, Some, Result, Ok, Err, ap, ◌∙◌, subst, inl, arith, take, drop, length-append, length-drop}
-use Rattle.std.specs.Prelude.{◌==◌, ◌++◌, All, IfErr, IfOk, IsTrue, nat_lt}
+use Rattle.std.specs.Prelude.{◌==◌, ◌++◌, All, Contains, IfErr, IfOk, IsTrue, nat_lt}
 use Rattle.std.proofs.lemmas.Bool.Decides.{nat_tests}
 use Rattle.std.proofs.lemmas.List.{length-take}
 use Rattle.block_math.specs.Changes.{padded, written_at}
@@ -11,8 +11,12 @@ use Rattle.s3_rows.specs.Tables.{Tables}
 use Rattle.s3_rows.specs.Batches.{tables_after}
 use Rattle.s3_rows.specs.Told.{IfTold, Told}
 use Rattle.s3_rows.specs.Validity.{differ}
+use Rattle.s3_devices.specs.Keys.{objects_in}
 use Rattle.s3_devices.specs.Objects.{Objects}
+use Rattle.s3_devices.specs.Told as stores
 use Rattle.s3_devices.specs.Told.{Becomes}
+use Rattle.tree_rows.specs.Contents.{Contents}
+use Rattle.core_model.specs.Safe.{HaveHeld}
 use Rattle.tree_rows.specs.Spots.{form_at}
 use Rattle.core_model.proofs.Prepared.{form_at-with_new_objects}
 use Rattle.byte_steps.specs.Changed.{stored_length}
@@ -21,12 +25,12 @@ use Rattle.file_ops.specs.declared.file_fault.FileFault.{FileFault}
 use Rattle.file_ops.specs.declared.file_fault.FileFault.TheVariants as faults
 use Rattle.file_ops.specs.declared.new_block.NewBlock.{NewBlock}
 use Rattle.file_ops.specs.FileBytes.{IfBothTold, IfFile, stored_in}
-use Rattle.file_ops.specs.FileChanges.{AreInFile, AreWithin, AreWorn, GetsBytes, IsFileAt, IsFileStep, with_length}
+use Rattle.file_ops.specs.FileChanges.{AreInFile, AreWithin, AreWorn, GetsBytes, HoldsBytes, IsFileAt, IsFileStep, with_length}
 use Rattle.file_ops.specs.FileFaults.{is_worn}
 use Rattle.file_ops.specs.NewBlocks.{AreBlocksOf, AreShort, numbers_of}
-use Rattle.file_ops.specs.Placed.{ArePrepared, IsWornFor}
+use Rattle.file_ops.specs.Placed.{ArePrepared, IsWornFor, KnowsBlocks}
 use Rattle.file_ops.proofs.ChangedNumbers.{stored_lengths}
-use Rattle.file_ops.proofs.FileForms.{file_written}
+use Rattle.file_ops.proofs.FileForms.{file_written, knows_blocks}
 use Rattle.file_ops.proofs.FileSteps.{all_within}
 
 -- ---- answers
@@ -51,6 +55,10 @@ is_less a b less = grind (arith, nat_tests)
 
 pub is_not_less : (a b : ℕ) → b ≤ a → nat_lt a b ≡ false
 is_not_less a b most = grind (arith, nat_tests)
+
+told_after : (R : Objects → Objects → Type 0) (o : Objects) (since : Option Objects) → Becomes R (Some o) since → stores.IfTold since (R o)
+told_after R o None fact = tt
+told_after R o (Some y) fact = fact
 
 -- ---- what is told
 
@@ -82,6 +90,34 @@ module _ (digest_of : List ℕ → List ℕ) (before : Option Told) (objects : O
       → IfOk r (λ batch. IfBothTold before objects (λ t o. IfTold after (λ later. GetsBytes digest_of t o later (tables_after batch later) file block_size new (changed (stored_length t file.id)))))
   changed_answer after size now (Err fault) prepared long are = tt
   changed_answer after size now (Ok batch) prepared long are = gets_bytes after batch size now prepared long are
+
+  -- what contents have of the rows is held
+  pub holds_bytes : (after : Option Told) (since : Option Objects) (batch : List Change)
+      → IfTold after (λ t. IsFileAt t file block_size → (m : Contents) → KnowsBlocks digest_of m blocks
+      → Becomes (λ x y. HaveHeld m (objects_in x) t.blocks → HaveHeld m (objects_in y) (tables_after batch t).blocks) objects since)
+      → IfBothTold before objects (λ t o. IfTold after (λ later. HoldsBytes digest_of t o later (tables_after batch later) since file block_size new (changed (stored_length t file.id))))
+  holds_bytes after since batch held = by_told before objects after numbers stored held
+    where
+      by_told : (a : Option Told) (b : Option Objects) (c : Option Told) → IfTold a (λ t. numbers_of blocks ≡ changed (stored_in t file.id))
+          → IfFile a b file.id file.size block_size (λ old. AreBlocksOf block_size (new old) blocks)
+          → IfTold c (λ t. IsFileAt t file block_size → (m : Contents) → KnowsBlocks digest_of m blocks
+          → Becomes (λ x y. HaveHeld m (objects_in x) t.blocks → HaveHeld m (objects_in y) (tables_after batch t).blocks) b since)
+          → IfBothTold a b (λ t o. IfTold c (λ later. HoldsBytes digest_of t o later (tables_after batch later) since file block_size new (changed (stored_length t file.id))))
+      by_told None b c named own holds = tt
+      by_told (Some s) None c named own holds = tt
+      by_told (Some s) (Some o) None named own holds = tt
+      by_told (Some s) (Some o) (Some s2) named own holds =
+          λ there old is m knows.
+          let same : numbers_of blocks ≡ changed (stored_length s.tables file.id) = named ∙ ap changed (stored_lengths s.tables file.id) in
+          told_after (λ x y. HaveHeld m (objects_in x) s2.tables.blocks → HaveHeld m (objects_in y) (tables_after batch s2.tables).blocks) o since
+          (holds there m (knows_blocks digest_of m block_size (new old) blocks (own old is) (λ n among. knows n (subst (λ (ns : List ℕ). Contains ns n) same among))))
+
+  pub bytes_answer : (after : Option Told) (since : Option Objects) (r : Result (List Change) FileFault)
+      → IfOk r (λ batch. IfTold after (λ t. IsFileAt t file block_size → (m : Contents) → KnowsBlocks digest_of m blocks
+      → Becomes (λ x y. HaveHeld m (objects_in x) t.blocks → HaveHeld m (objects_in y) (tables_after batch t).blocks) objects since))
+      → IfOk r (λ batch. IfBothTold before objects (λ t o. IfTold after (λ later. HoldsBytes digest_of t o later (tables_after batch later) since file block_size new (changed (stored_length t file.id)))))
+  bytes_answer after since (Err fault) held = tt
+  bytes_answer after since (Ok batch) held = holds_bytes after since batch held
 
   -- numbers or counts are at their end
   pub are_worn : (batch : List Change) → IfTold before (λ t. IsWornFor digest_of t batch blocks)

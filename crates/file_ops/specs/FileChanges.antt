@@ -1,19 +1,25 @@
 -- Files that get other bytes: their rows, and the tables after that.
 use Rattle.std.specs.Prelude.{◌≡◌, ◌⊎◌, ℕ, ◌*◌, ◌<◌, ◌≤◌, ◌==◌, List, [], length, All, false, IsTrue, Option, None, Some, Contains}
 use Rattle.block_math.specs.Blocks.{piece_of, trimmed}
+use Rattle.std.specs.List.{list_any}
 use Rattle.s3_base.specs.declared.node_kind.Kind.TheVariants as kinds
 use Rattle.s3_rows.specs.declared.change.Change.{Change}
 use Rattle.s3_rows.specs.declared.change.Change.TheVariants as changes
 use Rattle.s3_rows.specs.Rows.{Inode}
+use Rattle.s3_rows.specs.Ranges.{HasRanges}
 use Rattle.s3_rows.specs.Tables.{Tables}
+use Rattle.s3_rows.specs.Told as tellers
+use Rattle.s3_rows.specs.Told.{Told}
 use Rattle.s3_rows.specs.Batches.{after_change}
 use Rattle.s3_rows.specs.Selections.{inode_at}
 use Rattle.s3_rows.specs.Validity.{IsValid, differ}
+use Rattle.s3_devices.specs.Keys.{objects_in}
 use Rattle.s3_devices.specs.Objects.{Objects}
 use Rattle.s3_devices.specs.Told as stores
 use Rattle.tree_rows.specs.Contents.{Contents, HaveBytes}
 use Rattle.tree_rows.specs.Spots.{form_at}
 use Rattle.core_model.specs.Exact.{form_of_stored}
+use Rattle.core_model.specs.Safe.{HaveHeld}
 use Rattle.block_steps.specs.Owed.{KeepsNames}
 use Rattle.byte_steps.specs.Changed.{KnowsChanged}
 use Rattle.file_ops.specs.declared.new_block.NewBlock.{NewBlock}
@@ -74,3 +80,17 @@ abbrev pub GetsBytes : (List ℕ → List ℕ) → Tables → Objects → Tables
 GetsBytes digest_of t o now after file block_size new changed =
     IsFileAt now file block_size → (old : List ℕ) → IsFile t o file.id file.size block_size old → (m : Contents) → HaveBytes m now.blocks
     → KnowsChanged digest_of m block_size (new old) changed → IsFileWritten digest_of m t after file.id block_size (new old) changed
+
+-- What the store held of the rows for some contents that know the changed blocks, it holds of them after the batch.
+abbrev pub HoldsBytes : (List ℕ → List ℕ) → Tables → Objects → Tables → Tables → Option Objects → Inode → ℕ → (List ℕ → List ℕ) → List ℕ → Type 0
+HoldsBytes digest_of t o now after since file block_size new changed =
+    IsFileAt now file block_size → (old : List ℕ) → IsFile t o file.id file.size block_size old → (m : Contents) → KnowsChanged digest_of m block_size (new old) changed
+    → stores.IfTold since (λ held. HaveHeld m (objects_in o) now.blocks → HaveHeld m (objects_in held) after.blocks)
+
+-- the object of each block row holds what it held
+abbrev pub KeepsObjectsOf : Tables → Objects → Objects → Type 0
+KeepsObjectsOf t before after = (object : ℕ) → IsTrue (list_any (λ r. r.object == object) t.blocks) → objects_in after object ≡ objects_in before object
+
+-- So it is of tables that are told, whatever a call answers.
+abbrev pub KeepsObjects : Option Told → Option Objects → Option Objects → Type 0
+KeepsObjects tables before after = tellers.IfTold tables (λ t. IsValid t → HasRanges t → stores.Becomes (KeepsObjectsOf t) before after)

@@ -1,14 +1,18 @@
-//! What is so of tables once blocks are placed.
+//! What is so of tables once blocks are placed, and of their files.
 ghost use Rattle.std.specs.Prelude.{ℕ, List};
 ghost use Rattle.s3_rows.specs.declared.change.Change.{Change};
 ghost use Rattle.s3_rows.specs.Batches.{tables_after};
+ghost use Rattle.s3_rows.specs.Rows.{Inode};
+ghost use Rattle.s3_rows.specs.Tables.{Tables};
 ghost use Rattle.s3_rows.specs.Told.{Told};
 ghost use Rattle.s3_rows.specs.Stores.{AreHeld};
 ghost use Rattle.s3_devices.specs.Keys.{objects_in};
 ghost use Rattle.s3_devices.specs.Objects.{Objects};
-ghost use Rattle.core_model.specs.Safe.{HaveHeld};
+ghost use Rattle.core_model.specs.Safe.{HaveHeld, IsPrepared};
 ghost use Rattle.tree_rows.specs.Contents.{Contents, HaveBytes};
 ghost use Rattle.file_ops.specs.declared.new_block.NewBlock.{NewBlock};
+ghost use Rattle.byte_steps.specs.Changed.{EndsAt};
+ghost use Rattle.file_ops.specs.FileChanges.{IsFileAt};
 ghost use Rattle.file_ops.specs.Placed.{ArePlaceable, ArePlaced, ArePut, HaveTheirForms, KnowsBlocks, WerePlaced};
 
 use block_steps::{
@@ -50,3 +54,9 @@ pub(crate) fn placed_blocks_leave_valid_tables()
     relinked_places_leave_valid_tables();
     tables_that_owe_no_places_are_valid();
 }
+
+/// A file of valid tables stays as it is while objects are drawn, and no place past its end has a form.
+pub fn files_of_valid_tables()
+    ensures drawn { (before after : Tables) (file : Inode) (block_size : ℕ) → IsPrepared before after → IsFileAt before file block_size → IsFileAt after file block_size }
+    ensures ends { (t : Tables) (file : Inode) (block_size : ℕ) → IsFileAt t file block_size → EndsAt t file.id block_size file.size }
+{}

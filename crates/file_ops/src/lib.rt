@@ -20,6 +20,7 @@ mod writing;
 
 pub use changing::{resize_file, write_file};
 pub use file_fault::FileFault;
+pub use laws::files_of_valid_tables;
 pub use load_fault::LoadFault;
 pub use loading::load;
 pub use new_block::NewBlock;

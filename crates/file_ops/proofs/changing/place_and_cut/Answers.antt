@@ -7,6 +7,7 @@ use Rattle.core_model.specs.Safe.{HaveHeld}
 use Rattle.ref_counts.proofs.Told.{IfTold-same, IfTold-weaker2, IfTold-weaker3}
 use Rattle.file_ops.proofs.CutFiles.{CutLaws, first_placeable, held_cut, in_file_cut}
 use Rattle.file_ops.proofs.PutObjects.{Becomes-follows}
+use Rattle.file_ops.proofs.KeptObjects.{keeps_objects}
 use Rattle.file_ops.proofs.changing.place_and_cut.Goals as goal
 
 pub returns-clause-placed : goal.returns-clause-placed
@@ -50,3 +51,19 @@ returns-clause-bytes_held g c =
     (holds (first_placeable laws sha256 t c.new-batch.result c.place_blocks.new.batch c.drop_links.new.batch c.push.new.self c.args.file.now c.with_length.result c.file.inside.id c.file.inside.id c.args.size c.args.now c.args.block_size
     c.first_past.result c.args.blocks.now (ap (λ (r : Inode). r.id) c.file.view_is) (ap (λ (r : Inode). r.id) c.file.view_is) c.new-batch.ensures c.with_length.ensures there less are drops c.in_ok-push.ensures.ok) m knows))
     c.in_ok-place_blocks.ensures.bytes_held c.in_ok-drop_links.ensures.dropped)
+
+pub returns-clause-kept : goal.returns-clause-kept
+returns-clause-kept g c =
+    keeps_objects sha256 (g.K.Keeper.told c.args.keeper.now) c.args.blocks.now (g.L.Link.told c.args.link.now) (g.L.Link.told c.place_blocks.new.link) c.in_ok-place_blocks.ensures.others
+
+pub returns-in_err-place_blocks-clause-kept : goal.returns-in_err-place_blocks-clause-kept
+returns-in_err-place_blocks-clause-kept g c =
+    keeps_objects sha256 (g.K.Keeper.told c.args.keeper.now) c.args.blocks.now (g.L.Link.told c.args.link.now) (g.L.Link.told c.place_blocks.new.link) c.place_blocks.ensures.others
+
+pub returns-in_err-drop_links-clause-kept : goal.returns-in_err-drop_links-clause-kept
+returns-in_err-drop_links-clause-kept g c =
+    keeps_objects sha256 (g.K.Keeper.told c.args.keeper.now) c.args.blocks.now (g.L.Link.told c.args.link.now) (g.L.Link.told c.place_blocks.new.link) c.place_blocks.ensures.others
+
+pub returns-in_err-push-clause-kept : goal.returns-in_err-push-clause-kept
+returns-in_err-push-clause-kept g c =
+    keeps_objects sha256 (g.K.Keeper.told c.args.keeper.now) c.args.blocks.now (g.L.Link.told c.args.link.now) (g.L.Link.told c.place_blocks.new.link) c.place_blocks.ensures.others

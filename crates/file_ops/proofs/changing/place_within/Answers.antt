@@ -6,6 +6,7 @@ use Rattle.s3_rows.specs.Rows.{Inode}
 use Rattle.ref_counts.proofs.Told.{IfTold-weaker, IfTold-weaker2}
 use Rattle.file_ops.specs.FileChanges.{with_length}
 use Rattle.file_ops.proofs.FileSteps.{LongerLaws, placeable_row, placed_in_file}
+use Rattle.file_ops.proofs.KeptObjects.{keeps_objects}
 use Rattle.file_ops.proofs.changing.place_within.Goals as goal
 
 pub returns-clause-placed : goal.returns-clause-placed
@@ -37,3 +38,11 @@ returns-clause-bytes_held g c =
     (λ t holds block_size there grows are.
     holds (placeable_row laws sha256 t c.push.new.self c.place_blocks.new.batch c.args.file.now c.file.inside.id c.args.size c.args.now block_size c.args.blocks.now (ap (λ (r : Inode). r.id) c.file.view_is) put there grows are))
     c.in_ok-place_blocks.ensures.bytes_held
+
+pub returns-clause-kept : goal.returns-clause-kept
+returns-clause-kept g c =
+    keeps_objects sha256 (g.K.Keeper.told c.args.keeper.now) c.args.blocks.now (g.L.Link.told c.args.link.now) (g.L.Link.told c.place_blocks.new.link) c.in_ok-place_blocks.ensures.others
+
+pub returns-in_err-place_blocks-clause-kept : goal.returns-in_err-place_blocks-clause-kept
+returns-in_err-place_blocks-clause-kept g c =
+    keeps_objects sha256 (g.K.Keeper.told c.args.keeper.now) c.args.blocks.now (g.L.Link.told c.args.link.now) (g.L.Link.told c.place_blocks.new.link) c.place_blocks.ensures.others

@@ -13,15 +13,18 @@ use Rattle.s3_rows.specs.Validity.{differ}
 use Rattle.s3_devices.specs.Keys.{objects_in}
 use Rattle.s3_devices.specs.Objects.{Objects}
 use Rattle.s3_devices.specs.Told.{Becomes}
+use Rattle.tree_rows.specs.Contents.{Contents}
+use Rattle.core_model.specs.Safe.{HaveHeld}
 use Rattle.ref_counts.proofs.Told.{IfTold-weaker}
 use Rattle.file_ops.specs.declared.file_fault.FileFault.TheVariants.{Worn}
 use Rattle.file_ops.specs.declared.new_block.NewBlock.{NewBlock}
 use Rattle.file_ops.specs.FileBytes.{IfFile, stored_in}
-use Rattle.file_ops.specs.FileChanges.{AreInFile, AreWorn, IsFileAt, with_length}
+use Rattle.file_ops.specs.FileChanges.{AreInFile, AreWorn, IsFileAt, with_length, KeepsObjects}
 use Rattle.file_ops.specs.NewBlocks.{AreBlocksOf, numbers_of}
-use Rattle.file_ops.specs.Placed.{ArePrepared, IsWornFor}
+use Rattle.file_ops.specs.Placed.{ArePrepared, IsWornFor, KnowsBlocks}
 use Rattle.file_ops.proofs.ChangedNumbers.{distinct_of_resize}
-use Rattle.file_ops.proofs.WrittenFiles.{changed_answer, grown_answer, is_less, is_not_less, less_answer, step_answer, worn_answer}
+use Rattle.file_ops.proofs.WrittenFiles.{bytes_answer, changed_answer, grown_answer, is_less, is_not_less, less_answer, step_answer, worn_answer}
+use Rattle.file_ops.proofs.KeptObjects.{keeps_same}
 use Rattle.file_ops.proofs.changing.resize_file.Goals as goal
 
 pub returns-then-len-file-clause-step : goal.returns-then-len-file-clause-step
@@ -84,6 +87,30 @@ returns-then-len-file-clause-changed g c =
     after c.args.len c.args.now c.place_and_cut.result prepared (λ old long. length-resized c.args.len old)
     (less_answer before after file c.args.len c.args.block_size c.as_slice-new.result.now blocks c.as_slice-new.ensures.value prepared c.in_ok-blocks.ensures.below c.in_ok-blocks.ensures.short distinct
     (λ bs batch t. AreInFile sha256 t (tables_after batch t) (with_length c.args.len c.args.now file) c.args.block_size bs) order c.place_and_cut.result c.place_and_cut.ensures.placed)
+
+pub returns-then-len-file-clause-bytes_held : goal.returns-then-len-file-clause-bytes_held
+returns-then-len-file-clause-bytes_held g c =
+    let file = c.args.file.now in
+    let blocks = c.in_ok-blocks.blocks.items in
+    let before = g.K.Keeper.told c.args.keeper.now in
+    let objects = g.L.Link.told c.args.link.now in
+    let after = g.K.Keeper.told c.place_and_cut.new.keeper in
+    let numbers : IfTold before (λ t. numbers_of blocks ≡ blocks_of_resize c.args.block_size c.args.len file.size (stored_in t file.id)) =
+    subst (λ (r : Inode). IfTold before (λ t. numbers_of blocks ≡ blocks_of_resize c.args.block_size c.args.len r.size (stored_in t r.id))) c.file.view_is c.in_ok-blocks.ensures.numbers in
+    let distinct : IfTold before (λ t. IsTrue (differ (λ (a b : NewBlock). b.blockno == a.blockno) blocks)) =
+    IfTold-weaker before _ _ (λ t is. distinct_of_resize c.args.block_size c.args.len file.size (stored_in t file.id) blocks is) numbers in
+    let prepared : Becomes ArePrepared before after = subst (λ (o : Option Told). Becomes ArePrepared o after) c.in_ok-blocks.ensures.keeper_same c.place_and_cut.ensures.prepared in
+    let own : c.file.inside.size ≡ file.size = ap (λ (r : Inode). r.size) c.file.view_is in
+    let order : c.args.len ≤ file.size = omega (arith, c.if-len-file.true, own) in
+    let stored : IfFile before objects file.id file.size c.args.block_size (λ old. AreBlocksOf c.args.block_size (resized c.args.len old) blocks) =
+    subst (λ (r : Inode). IfFile before objects r.id r.size c.args.block_size (λ old. AreBlocksOf c.args.block_size (resized c.args.len old) blocks)) c.file.view_is c.in_ok-blocks.ensures.stored in
+    let since = g.L.Link.told c.place_and_cut.new.link in
+    bytes_answer sha256 before objects file c.args.block_size blocks (resized c.args.len) (λ stored. blocks_of_resize c.args.block_size c.args.len file.size stored) numbers stored after since c.place_and_cut.result
+    (subst
+    (λ (o : Option Objects). IfOk c.place_and_cut.result (λ batch. IfTold after (λ t. IsFileAt t file c.args.block_size → (m : Contents) → KnowsBlocks sha256 m blocks → Becomes (λ x y. HaveHeld m (objects_in x) t.blocks → HaveHeld m (objects_in y) (tables_after batch t).blocks) o since)))
+    c.in_ok-blocks.ensures.link_same
+    (less_answer before after file c.args.len c.args.block_size c.as_slice-new.result.now blocks c.as_slice-new.ensures.value prepared c.in_ok-blocks.ensures.below c.in_ok-blocks.ensures.short distinct
+    (λ bs batch t. (m : Contents) → KnowsBlocks sha256 m bs → Becomes (λ x y. HaveHeld m (objects_in x) t.blocks → HaveHeld m (objects_in y) (tables_after batch t).blocks) (g.L.Link.told c.resized_blocks.new.link) since) order c.place_and_cut.result c.place_and_cut.ensures.bytes_held))
 
 pub returns-then-len-file-clause-worn : goal.returns-then-len-file-clause-worn
 returns-then-len-file-clause-worn g c =
@@ -167,6 +194,30 @@ returns-clause-changed g c =
     (grown_answer before after file c.args.len c.args.block_size c.as_slice-new.result.now blocks c.as_slice-new.ensures.value prepared c.in_ok-blocks.ensures.below c.in_ok-blocks.ensures.short distinct
     (λ n bs batch t. AreInFile sha256 t (tables_after batch t) (with_length c.args.len c.args.now file) n bs) order c.place_within.result c.place_within.ensures.placed)
 
+pub returns-clause-bytes_held : goal.returns-clause-bytes_held
+returns-clause-bytes_held g c =
+    let file = c.args.file.now in
+    let blocks = c.in_ok-blocks.blocks.items in
+    let before = g.K.Keeper.told c.args.keeper.now in
+    let objects = g.L.Link.told c.args.link.now in
+    let after = g.K.Keeper.told c.place_within.new.keeper in
+    let numbers : IfTold before (λ t. numbers_of blocks ≡ blocks_of_resize c.args.block_size c.args.len file.size (stored_in t file.id)) =
+    subst (λ (r : Inode). IfTold before (λ t. numbers_of blocks ≡ blocks_of_resize c.args.block_size c.args.len r.size (stored_in t r.id))) c.file.view_is c.in_ok-blocks.ensures.numbers in
+    let distinct : IfTold before (λ t. IsTrue (differ (λ (a b : NewBlock). b.blockno == a.blockno) blocks)) =
+    IfTold-weaker before _ _ (λ t is. distinct_of_resize c.args.block_size c.args.len file.size (stored_in t file.id) blocks is) numbers in
+    let prepared : Becomes ArePrepared before after = subst (λ (o : Option Told). Becomes ArePrepared o after) c.in_ok-blocks.ensures.keeper_same c.place_within.ensures.prepared in
+    let own : c.file.inside.size ≡ file.size = ap (λ (r : Inode). r.size) c.file.view_is in
+    let order : file.size ≤ c.args.len = omega (arith, c.if-len-file.false, own) in
+    let stored : IfFile before objects file.id file.size c.args.block_size (λ old. AreBlocksOf c.args.block_size (resized c.args.len old) blocks) =
+    subst (λ (r : Inode). IfFile before objects r.id r.size c.args.block_size (λ old. AreBlocksOf c.args.block_size (resized c.args.len old) blocks)) c.file.view_is c.in_ok-blocks.ensures.stored in
+    let since = g.L.Link.told c.place_within.new.link in
+    bytes_answer sha256 before objects file c.args.block_size blocks (resized c.args.len) (λ stored. blocks_of_resize c.args.block_size c.args.len file.size stored) numbers stored after since c.place_within.result
+    (subst
+    (λ (o : Option Objects). IfOk c.place_within.result (λ batch. IfTold after (λ t. IsFileAt t file c.args.block_size → (m : Contents) → KnowsBlocks sha256 m blocks → Becomes (λ x y. HaveHeld m (objects_in x) t.blocks → HaveHeld m (objects_in y) (tables_after batch t).blocks) o since)))
+    c.in_ok-blocks.ensures.link_same
+    (grown_answer before after file c.args.len c.args.block_size c.as_slice-new.result.now blocks c.as_slice-new.ensures.value prepared c.in_ok-blocks.ensures.below c.in_ok-blocks.ensures.short distinct
+    (λ n bs batch t. (m : Contents) → KnowsBlocks sha256 m bs → Becomes (λ x y. HaveHeld m (objects_in x) t.blocks → HaveHeld m (objects_in y) (tables_after batch t).blocks) (g.L.Link.told c.resized_blocks.new.link) since) order c.place_within.result c.place_within.ensures.bytes_held))
+
 pub returns-clause-worn : goal.returns-clause-worn
 returns-clause-worn g c =
     let file = c.args.file.now in
@@ -187,3 +238,19 @@ returns-clause-worn g c =
     (subst
     (λ (o : Option Told). IfErr c.place_within.result (λ fault. fault ≡ Worn → IfTold o (λ t. IsWornFor sha256 t (changes.PutInode (with_length c.args.len c.args.now file) ∷ []) c.as_slice-new.result.now)))
     c.in_ok-blocks.ensures.keeper_same c.place_within.ensures.worn))
+
+pub returns-then-len-file-clause-kept : goal.returns-then-len-file-clause-kept
+returns-then-len-file-clause-kept g c =
+    let since = g.L.Link.told c.place_and_cut.new.link in
+    subst (λ (o : Option Told). KeepsObjects o (g.L.Link.told c.args.link.now) since) c.in_ok-blocks.ensures.keeper_same
+    (subst (λ (o : Option Objects). KeepsObjects (g.K.Keeper.told c.resized_blocks.new.keeper) o since) c.in_ok-blocks.ensures.link_same c.place_and_cut.ensures.kept)
+
+pub returns-clause-kept : goal.returns-clause-kept
+returns-clause-kept g c =
+    let since = g.L.Link.told c.place_within.new.link in
+    subst (λ (o : Option Told). KeepsObjects o (g.L.Link.told c.args.link.now) since) c.in_ok-blocks.ensures.keeper_same
+    (subst (λ (o : Option Objects). KeepsObjects (g.K.Keeper.told c.resized_blocks.new.keeper) o since) c.in_ok-blocks.ensures.link_same c.place_within.ensures.kept)
+
+pub returns-in_err-blocks-clause-kept : goal.returns-in_err-blocks-clause-kept
+returns-in_err-blocks-clause-kept g c =
+    keeps_same (g.K.Keeper.told c.args.keeper.now) (g.L.Link.told c.args.link.now) (g.L.Link.told c.resized_blocks.new.link) c.resized_blocks.ensures.link_same
