@@ -1,12 +1,12 @@
 //! The bytes of a range of a file.
-ghost use Rattle.std.specs.Prelude.{◌≡◌, ℕ, ◌+◌, ◌-◌, ◌*◌, ◌^◌, ◌<◌, ◌≤◌, ◌++◌, length, min, take, drop, IfOk, IfErr, OnOk};
+ghost use Rattle.std.specs.Prelude.{◌≡◌, ℕ, ◌+◌, ◌-◌, ◌*◌, ◌^◌, ◌<◌, ◌≤◌, ◌++◌, length, min, take, drop, false, IfOk, IfErr, OnOk};
 ghost use Rattle.sha2.specs.Sha256.{sha256};
 ghost use Rattle.s3_base.specs.Faults.{HasCause};
 ghost use Rattle.block_math.specs.Changes.{resized};
 ghost use Rattle.plain_tree.specs.Files.{read_at};
 ghost use Rattle.core_model.specs.Changes.{touched_blocks};
 ghost use Rattle.file_ops.specs.FileBytes.{IfFile};
-ghost use Rattle.file_ops.specs.FileFaults.{IsLossAmong, IsLossAt, keeper_failed, link_failed};
+ghost use Rattle.file_ops.specs.FileFaults.{IsLossAmong, IsLossAt, is_worn, keeper_failed, link_failed};
 
 use crate::{FileFault, load};
 use block_math::{Piece, count, piece};
@@ -40,6 +40,7 @@ fn append_piece<K: Keeper, L: Link>(
     ensures len { OnOk result (length bytes.new.items ≡ length bytes.old.items + piece.len) }
     ensures bytes { OnOk result ((size block_size : ℕ) → piece.at + piece.len ≤ block_size → piece.blockno * block_size + piece.at + piece.len ≤ size
         → IfFile (K.told keeper.old) (L.told link.old) inode size block_size (λ file. bytes.new.items ≡ bytes.old.items ++ read_at (piece.blockno * block_size + piece.at) piece.len file)) }
+    ensures unworn { is_worn result ≡ false }
     ensures lost { IfErr result (IsLossAt sha256 (K.told keeper.old) (L.told link.old) inode piece.blockno) }
     ensures keeper_same { K.told keeper.new ≡ K.told keeper.old }
     ensures link_same { L.told link.new ≡ L.told link.old }
@@ -72,6 +73,7 @@ fn read_range<K: Keeper, L: Link>(
     ensures len { IfOk result (λ v. length v.items ≡ len) }
     ensures bytes { IfOk result (λ v. (size : ℕ) → off + len ≤ size
         → IfFile (K.told keeper.old) (L.told link.old) inode size block_size (λ file. v.items ≡ read_at off len file)) }
+    ensures unworn { is_worn result ≡ false }
     ensures lost { IfErr result (IsLossAmong sha256 (K.told keeper.old) (L.told link.old) inode (λ t. touched_blocks block_size off len)) }
     ensures keeper_same { K.told keeper.new ≡ K.told keeper.old }
     ensures link_same { L.told link.new ≡ L.told link.old }
@@ -103,6 +105,7 @@ pub fn read<K: Keeper, L: Link>(
     requires size { size ≤ 2 ^ 50 }
     ensures len { IfOk result (λ bytes. length bytes ≡ min len (size - off)) }
     ensures bytes { IfOk result (λ bytes. IfFile (K.told keeper.old) (L.told link.old) inode size block_size (λ file. bytes ≡ read_at off len file)) }
+    ensures unworn { is_worn result ≡ false }
     ensures lost { IfErr result (IsLossAmong sha256 (K.told keeper.old) (L.told link.old) inode (λ t. touched_blocks block_size off (min len (size - off)))) }
     ensures keeper_same { K.told keeper.new ≡ K.told keeper.old }
     ensures link_same { L.told link.new ≡ L.told link.old }
