@@ -1,0 +1,16 @@
+mod Answered
+mod Carried
+mod Changed
+mod ChangedNodes
+mod Effects
+mod FileCalls
+mod FileChecks
+mod FileDone
+mod FileOutcomes
+mod FilesWritten
+mod LawsUsed
+mod Looking
+mod Occurring
+mod Opened
+mod Standing
+mod Successes

@@ -1,0 +1,67 @@
+-- Why an operation on the bytes of a file is not carried out.
+use Rattle.std.specs.Prelude.{◌≡◌, ◌⊎◌, ℕ, ◌+◌, ◌-◌, max, min, List, [], ◌∷◌, length, Bool, true, false, nat_lt, Option, None, Some, if◌then◌else◌}
+use Rattle.op_frames.specs.declared.operation.Op.{Op}
+use Rattle.op_frames.specs.declared.operation.Op.TheVariants as ops
+use Rattle.plain_tree.specs.Tree.{Tree, handle_of}
+use Rattle.plain_tree.specs.Files.{file_at, inode_of}
+use Rattle.block_math.specs.Changes.{resized, written_at}
+use Rattle.s3_rows.specs.declared.change.Change.TheVariants as changes
+use Rattle.s3_rows.specs.declared.digest.Digest.{Digest}
+use Rattle.s3_rows.specs.Rows.{Inode}
+use Rattle.s3_rows.specs.Selections.{inode_at}
+use Rattle.s3_rows.specs.Tables.{Tables}
+use Rattle.s3_rows.specs.Told.{Told, IfTold}
+use Rattle.s3_devices.specs.Objects.{Objects}
+use Rattle.core_model.specs.Changes.{blocks_of_resize, blocks_of_write, needed_by_write, touched_blocks}
+use Rattle.file_ops.specs.declared.file_fault.FileFault.TheVariants as faults
+use Rattle.file_ops.specs.FileBytes.{stored_in}
+use Rattle.file_ops.specs.FileChanges.{AreWorn, with_length}
+use Rattle.file_ops.specs.FileFaults.{IsLossAmong}
+use Rattle.ref_counts.specs.Plans.{IsWorn}
+
+-- it writes blocks of a file
+abbrev pub writes_blocks : Op → Bool
+writes_blocks (ops.Truncate inode size) = true
+writes_blocks (ops.Write handle offset bytes) = true
+writes_blocks _ = false
+
+-- the inode of the file whose bytes an operation reads or writes
+abbrev pub file_used : Tree → ℕ → Op → ℕ
+file_used whole pass (ops.Truncate inode size) = inode
+file_used whole pass (ops.Read handle offset count) = inode_of (handle_of whole pass handle)
+file_used whole pass (ops.Write handle offset bytes) = inode_of (handle_of whole pass handle)
+file_used whole pass _ = 0
+
+-- how many bytes a file has
+abbrev pub length_of_file : Tree → ℕ → ℕ
+length_of_file whole inode = elim (file_at whole inode) [ Some bytes ↦ length bytes | None ↦ 0 ]
+
+-- the blocks of the file whose stored bytes it needs
+abbrev pub needed_by : Tables → Tree → ℕ → Op → List ℕ
+needed_by t whole pass (ops.Truncate inode size) = blocks_of_resize whole.block_size size (length_of_file whole inode) (stored_in t inode)
+needed_by t whole pass (ops.Read handle offset count) =
+    touched_blocks whole.block_size offset (min count (length_of_file whole (inode_of (handle_of whole pass handle)) - offset))
+needed_by t whole pass (ops.Write handle offset bytes) =
+    needed_by_write whole.block_size offset (length bytes)
+    (blocks_of_write whole.block_size offset (length bytes) (length_of_file whole (inode_of (handle_of whole pass handle))) (stored_in t (inode_of (handle_of whole pass handle))))
+needed_by t whole pass _ = []
+
+-- the store has not the bytes of one of these blocks
+abbrev pub IsLossFor : (List ℕ → List ℕ) → Option Told → Option Objects → Tree → ℕ → Op → ℕ → Digest → Option Digest → Type 0
+IsLossFor digest_of before objects whole pass op object kept got =
+    IsLossAmong digest_of before objects (file_used whole pass op) (λ t. needed_by t whole pass op) (faults.Lost object kept got)
+
+-- there is no number, or no count, for the blocks that it writes
+abbrev pub AreWornBlocks : (List ℕ → List ℕ) → Tables → Option Objects → Tree → Inode → ℕ → Op → Type 0
+AreWornBlocks digest_of t objects whole r now (ops.Truncate inode size) =
+    AreWorn digest_of t objects r whole.block_size (resized size) (blocks_of_resize whole.block_size size r.size (stored_in t r.id))
+    (if nat_lt size r.size then [] else changes.PutInode (with_length size now r) ∷ [])
+AreWornBlocks digest_of t objects whole r now (ops.Write handle offset bytes) =
+    AreWorn digest_of t objects r whole.block_size (written_at offset bytes) (blocks_of_write whole.block_size offset (length bytes) r.size (stored_in t r.id))
+    (changes.PutInode (with_length (max r.size (offset + length bytes)) now r) ∷ [])
+AreWornBlocks digest_of t objects whole r now _ = ⊥
+
+-- A count or an id that is needed is worn: of a name or an inode, or of the blocks that are written.
+abbrev pub LacksBlocks : (List ℕ → List ℕ) → Option Told → Option Objects → Tree → ℕ → Op → ℕ → Type 0
+LacksBlocks digest_of before objects whole pass op now =
+    IfTold before (λ t. IsWorn t whole op ⊎ ((r : Inode) × (inode_at t (file_used whole pass op) ≡ Some r) × AreWornBlocks digest_of t objects whole r now op))
