@@ -1,9 +1,13 @@
+pub mod Apart
+pub mod Found
 pub mod Holder
 pub mod Least
 pub mod Listed
 pub mod Marks
+pub mod Moved
 pub mod Parts
 pub mod Places
 pub mod Ranges
 pub mod Standing
+pub mod Stays
 pub mod Tabled

@@ -99,8 +99,3 @@ from_number from n = grind (arith, nat_tests)
 
 pub past_number : (after n : ℕ) → range_contains nat_cmp (Excluded after) Unbounded n ≡ nat_lt after n
 past_number after n = grind (arith, nat_tests)
-
--- all pairs of one first number
-pub in_first : (first a b : ℕ) → b < 18446744073709551615 → (a == first) ≡ true
-    → range_contains pair_cmp (Included (first, 0)) (Included (first, 18446744073709551615)) (a, b) ≡ true
-in_first first a b low same = grind (arith, nat_tests)

@@ -1,3 +1,4 @@
+pub mod Filed
 pub mod Holders
 pub mod Index
 pub mod Indexes

@@ -2,9 +2,11 @@
 ghost use Rattle.std.specs.Prelude.{◌≡◌, IsTrue, IfOk, OnOk, OnErr, All};
 ghost use Rattle.s3_rows.specs.Batches.{tables_after};
 ghost use Rattle.s3_rows.specs.Ranges.{HasRanges};
+ghost use Rattle.mem_keeper.specs.Filed.{AreStanding};
 ghost use Rattle.mem_keeper.specs.Indexes.{Stand, IsListedChange, StayListed};
 ghost use Rattle.mem_keeper.specs.Store.{IsMaps, tables_in, tables_of, HasPlace};
 
+use crate::filings::{Filings, follow_both, plans_of};
 use crate::indexes::{Indexes, list_changes, tidy};
 use crate::store::{Gone, Maps, Store, apply_change, drop_change, hold_change, settle};
 use s3_rows::{Batch, Change};
@@ -142,22 +144,50 @@ fn commit_maps(
     done
 }
 
+// Makes the changes of a batch in the maps and in the filings, or changes nothing where there is no memory.
+fn commit_filed(
+    alloc: Global,
+    maps: &mut Maps,
+    indexes: &mut Indexes,
+    filings: &mut Filings,
+    batch: &Batch,
+) -> Result<(), AllocError>
+    requires maps { IsMaps maps.old }
+    requires ranges { HasRanges (tables_in maps.old) }
+    requires standing { IsTrue indexes.old.stand → Stand indexes.old (tables_in maps.old) }
+    requires filed { AreStanding filings.old (tables_in maps.old) }
+    ensures ok { OnOk result (tables_in maps.new ≡ tables_after batch.now (tables_in maps.old)) }
+    ensures err { OnErr result (tables_in maps.new ≡ tables_in maps.old) }
+    ensures standing { IsTrue indexes.new.stand → Stand indexes.new (tables_in maps.new) }
+    ensures filed { AreStanding filings.new (tables_in maps.new) }
+    ensures ranges { HasRanges (tables_in maps.new) }
+    ensures maps { IsMaps maps.new }
+{
+    let plans = plans_of(filings, alloc, maps, batch.as_slice())?;
+    commit_maps(alloc, maps, indexes, batch)?;
+    follow_both(filings, maps, batch.as_slice(), plans);
+    Ok(())
+}
+
 /// Makes the changes of a batch, or changes nothing where there is no memory.
 pub(crate) fn commit_batch(
     alloc: Global,
     store: &mut Store,
     indexes: &mut Indexes,
+    filings: &mut Filings,
     batch: &Batch,
 ) -> Result<(), AllocError>
     requires maps { IsMaps store.old.maps }
     requires ranges { HasRanges (tables_of store.old) }
     requires standing { IsTrue indexes.old.stand → Stand indexes.old (tables_of store.old) }
+    requires filed { AreStanding filings.old (tables_of store.old) }
     ensures ok { OnOk result (tables_of store.new ≡ tables_after batch.now (tables_of store.old)) }
     ensures err { OnErr result (tables_of store.new ≡ tables_of store.old) }
     ensures standing { IsTrue indexes.new.stand → Stand indexes.new (tables_of store.new) }
+    ensures filed { AreStanding filings.new (tables_of store.new) }
     ensures ranges { HasRanges (tables_of store.new) }
     ensures maps { IsMaps store.new.maps }
 {
     settle(store, alloc)?;
-    commit_maps(alloc, &mut store.maps, indexes, batch)
+    commit_filed(alloc, &mut store.maps, indexes, filings, batch)
 }

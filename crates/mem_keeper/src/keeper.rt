@@ -35,7 +35,13 @@ impl Keeper for MemKeeper {
         ensures call { IsCall result self.old self.new }
     {
         self.begin()?;
-        match commit_batch(self.alloc, &mut self.store, &mut self.indexes, batch) {
+        match commit_batch(
+            self.alloc,
+            &mut self.store,
+            &mut self.indexes,
+            &mut self.filings,
+            batch,
+        ) {
             Ok(()) => {
                 self.commits = self.commits.saturating_add(1);
                 Ok(())
@@ -127,7 +133,14 @@ impl Keeper for MemKeeper {
     {
         self.begin()?;
         settle(&mut self.store, self.alloc)?;
-        match entries_in(self.alloc, &self.store.maps, parent, after, max) {
+        match entries_in(
+            &mut self.filings,
+            self.alloc,
+            &self.store.maps,
+            parent,
+            after,
+            max,
+        ) {
             Ok(found) => Ok(found),
             Err(_) => Err(KeeperFault::Memory),
         }
@@ -278,7 +291,14 @@ impl Keeper for MemKeeper {
     {
         self.begin()?;
         settle(&mut self.store, self.alloc)?;
-        match attrs_in(self.alloc, &self.store.maps, inode, after, max) {
+        match attrs_in(
+            &mut self.filings,
+            self.alloc,
+            &self.store.maps,
+            inode,
+            after,
+            max,
+        ) {
             Ok(found) => Ok(found),
             Err(_) => Err(KeeperFault::Memory),
         }

@@ -3,6 +3,8 @@
 
 mod calls;
 mod commit;
+mod filing;
+mod filings;
 mod holders;
 mod index;
 mod indexes;
@@ -11,6 +13,7 @@ mod keyed;
 mod lists;
 mod look_ups;
 mod memory;
+mod named;
 mod pages;
 mod store;
 mod table;

@@ -6,14 +6,19 @@ ghost use Rattle.s3_rows.specs.Rows.{IsInodeBlock, IsContent};
 ghost use Rattle.s3_rows.specs.Ranges.{HasRanges};
 ghost use Rattle.s3_rows.specs.Selections.{attrs_listed, by_attr_name, by_entry_name, entries_listed, free_objects_listed, inode_blocks_listed, slot_of_spot, slots_listed};
 ghost use Rattle.s3_rows.specs.Told.{by_number, has_short_name, is_page, is_run_of, is_run_of_slots};
+ghost use Rattle.mem_keeper.specs.Filed.{AreStanding};
 ghost use Rattle.mem_keeper.specs.Store.{IsMaps, tables_in};
 
+use crate::filing::build;
+use crate::filings::Filings;
+use crate::named::page_of;
 use crate::store::Maps;
 use crate::table::{Sought, rows_passing, rows_within};
-use row_lists::{attrs_of, blocks_of_inode, entries_of, free_objects_of, slot_of, slots_of};
+use row_lists::{blocks_of_inode, free_objects_of, slot_of, slots_of};
 use s3_base::{ByteList, NumberList};
 use s3_rows::{
-    AttrRow, ContentRow, EntryList, InodeBlockList, NamedAttrList, ObjectRow, SlotList, SlotRow,
+    AttrRow, ContentRow, EntryList, InodeBlockList, NamedAttr, NamedAttrList, NamedEntry,
+    ObjectRow, SlotList, SlotRow,
 };
 use std::alloc::{AllocError, Global};
 use std::ops::Bound;
@@ -62,18 +67,6 @@ pub(crate) fn slots_in(
     slots_of(alloc, &rows, from, max)
 }
 
-// Entries of a directory.
-#[derive(Drop)]
-struct OfParent(u64);
-
-impl Sought<ContentRow> for OfParent {
-    ghost passes = { λ s r. r.parent == s.0 };
-
-    fn passes(&self, row: &ContentRow) -> bool {
-        row.parent == self.0
-    }
-}
-
 // Slots that hold the block at a place.
 #[derive(Drop)]
 struct HoldsSpot(u64, u64);
@@ -98,20 +91,10 @@ impl Sought<ObjectRow> for IsFree {
     }
 }
 
-// Attributes of an inode.
-#[derive(Drop)]
-struct OfInode(u64);
-
-impl Sought<AttrRow> for OfInode {
-    ghost passes = { λ s r. r.inode == s.0 };
-
-    fn passes(&self, row: &AttrRow) -> bool {
-        row.inode == self.0
-    }
-}
-
-/// The first `max` entries of a directory whose names come after `after`, in the order of their names.
+/// The first `max` entries of a directory whose names come after `after`, in the order of their names. It files the entries
+/// where their filing does not stand.
 pub(crate) fn entries_in(
+    filings: &mut Filings,
     alloc: Global,
     maps: &Maps,
     parent: u64,
@@ -120,21 +103,27 @@ pub(crate) fn entries_in(
 ) -> Result<EntryList, AllocError>
     requires maps { IsMaps maps.now }
     requires ranges { HasRanges (tables_in maps.now) }
+    requires filed { AreStanding filings.old (tables_in maps.now) }
     ensures rows { IfOk result (λ l. l ≡ entries_listed (tables_in maps.now) parent after.now max) }
     ensures page { IfOk result (λ l. IsTrue (is_page by_entry_name after.now max l && list_all (λ e. has_short_name e.name) l)) }
+    ensures filed { AreStanding filings.new (tables_in maps.now) }
 {
-    let rows = rows_passing(
+    build(&mut filings.entries, alloc, &maps.contents, &maps.names)?;
+    page_of::<ContentRow, NamedEntry>(
         alloc,
+        &filings.entries,
         &maps.contents,
-        Bound::Included((parent, 0)),
-        Bound::Included((parent, u64::MAX)),
-        &OfParent(parent),
-    )?;
-    entries_of(alloc, &rows, &maps.names, parent, after, max)
+        &maps.names,
+        parent,
+        after,
+        max,
+    )
 }
 
-/// The first `max` attributes of an inode whose names come after `after`, in the order of their names.
+/// The first `max` attributes of an inode whose names come after `after`, in the order of their names. It files the
+/// attributes where their filing does not stand.
 pub(crate) fn attrs_in(
+    filings: &mut Filings,
     alloc: Global,
     maps: &Maps,
     inode: u64,
@@ -143,17 +132,21 @@ pub(crate) fn attrs_in(
 ) -> Result<NamedAttrList, AllocError>
     requires maps { IsMaps maps.now }
     requires ranges { HasRanges (tables_in maps.now) }
+    requires filed { AreStanding filings.old (tables_in maps.now) }
     ensures rows { IfOk result (λ l. l ≡ attrs_listed (tables_in maps.now) inode after.now max) }
     ensures page { IfOk result (λ l. IsTrue (is_page by_attr_name after.now max l && list_all (λ a. has_short_name a.name) l)) }
+    ensures filed { AreStanding filings.new (tables_in maps.now) }
 {
-    let rows = rows_passing(
+    build(&mut filings.attrs, alloc, &maps.attrs, &maps.names)?;
+    page_of::<AttrRow, NamedAttr>(
         alloc,
+        &filings.attrs,
         &maps.attrs,
-        Bound::Included((inode, 0)),
-        Bound::Included((inode, u64::MAX)),
-        &OfInode(inode),
-    )?;
-    attrs_of(alloc, &rows, &maps.names, inode, after, max)
+        &maps.names,
+        inode,
+        after,
+        max,
+    )
 }
 
 /// The least slot that holds the block at this place.

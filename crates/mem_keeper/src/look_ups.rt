@@ -43,7 +43,8 @@ impl Indexed for BlockRow {
     }
 }
 
-fn same_bytes(left: &[u8], right: &[u8]) -> bool
+/// Whether bytes are the same.
+pub(crate) fn same_bytes(left: &[u8], right: &[u8]) -> bool
     ensures { result ≡ is_eq (slice_cmp nat_cmp left.now right.now) }
 {
     left == right

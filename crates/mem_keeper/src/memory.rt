@@ -1,6 +1,7 @@
 ghost use Rattle.std.specs.Prelude.{◌≡◌, []};
 ghost use Rattle.s3_rows.specs.Tables.{no_tables};
 
+use crate::filings::Filings;
 use crate::indexes::Indexes;
 use crate::store::{Store, tell_all_ranges};
 use s3_base::NumberList;
@@ -14,6 +15,7 @@ use std::marker::Model;
 pub struct MemKeeper {
     pub(crate) store: Store,
     pub(crate) indexes: Indexes,
+    pub(crate) filings: Filings,
     pub(crate) commits: u64,
     pub(crate) calls: u64,
     pub(crate) fails: NumberList,
@@ -27,12 +29,13 @@ impl Model for MemKeeper {
     ghost use Rattle.mem_keeper.specs.Memory.{KeeperState};
     ghost use Rattle.mem_keeper.specs.Store.{IsMaps, tables_of};
     ghost use Rattle.mem_keeper.specs.Indexes.{Stand};
+    ghost use Rattle.mem_keeper.specs.Filed.{AreStanding};
 
     ghost Value = { KeeperState };
 
     ghost view = { λ k. record { told = record { tables = tables_of k.store; commits = k.commits }; calls = k.calls; fails = k.fails; faults = k.faults } };
 
-    ghost invariant = { λ k. record { maps : IsMaps k.store.maps; ranges : HasRanges (tables_of k.store); standing : IsTrue k.indexes.stand → Stand k.indexes (tables_of k.store) } };
+    ghost invariant = { λ k. record { maps : IsMaps k.store.maps; ranges : HasRanges (tables_of k.store); standing : IsTrue k.indexes.stand → Stand k.indexes (tables_of k.store); filed : AreStanding k.filings (tables_of k.store) } };
 }
 
 impl MemKeeper {
@@ -50,6 +53,7 @@ impl MemKeeper {
         MemKeeper {
             store: Store::new(alloc),
             indexes: Indexes::new(alloc),
+            filings: Filings::new(alloc),
             commits: 0,
             calls: 0,
             fails,
@@ -66,6 +70,7 @@ impl MemKeeper {
         MemKeeper {
             store: Store::of(alloc, tables),
             indexes: Indexes::new(alloc),
+            filings: Filings::new(alloc),
             commits: 0,
             calls: 0,
             fails: NumberList::new(alloc),

@@ -146,10 +146,7 @@ pub(crate) fn rows_within<R: Keyed>(
 }
 
 /// Holds a key in a set of keys.
-pub(crate) fn hold_key<K: Ord + Copy + Drop>(
-    keys: &mut BTreeMap<K, ()>,
-    key: K,
-) -> Result<(), AllocError>
+pub(crate) fn hold_key<K: Ord + Drop>(keys: &mut BTreeMap<K, ()>, key: K) -> Result<(), AllocError>
     ensures held { OnOk result (IsSome (get K.cmp keys.new key)) }
     ensures kept { KeepsPlaces K.cmp keys.old keys.new }
 {
@@ -163,7 +160,7 @@ pub(crate) fn hold_key<K: Ord + Copy + Drop>(
 }
 
 /// Lets go of a key of a set of keys.
-pub(crate) fn drop_key<K: Ord + Copy + Drop>(keys: &mut BTreeMap<K, ()>, key: K)
+pub(crate) fn drop_key<K: Ord + Drop>(keys: &mut BTreeMap<K, ()>, key: K)
     ensures { (q : K) → (K.cmp key q ≡ Equal → ⊥) → IsSome (get K.cmp keys.old q) → IsSome (get K.cmp keys.new q) }
 {
     let _ = keys.remove(&key);
