@@ -53,7 +53,7 @@ listed_passes p (r ∷ rs) all x is =
     ]
 
 -- a name comes after the empty one
-name_later : (name : List ℕ) → name_check name ≡ None → IsTrue (is_lt (bytes_cmp [] name))
+pub name_later : (name : List ℕ) → name_check name ≡ None → IsTrue (is_lt (bytes_cmp [] name))
 name_later [] is = absurd (cc is)
 name_later (b ∷ bs) is = refl
 

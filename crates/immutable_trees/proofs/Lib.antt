@@ -1,4 +1,6 @@
+pub mod BranchSteps
 pub mod Come
+pub mod ListedRows
 pub mod LockPlanned
 pub mod LockedRows
 pub mod LostEntry
@@ -8,4 +10,7 @@ pub mod Reached
 pub mod RemovedSteps
 pub mod RemovedTree
 pub mod ShrunkTree
+pub mod TakenBatches
+pub mod TakenRest
 pub mod TakenRows
+pub mod TakenSteps

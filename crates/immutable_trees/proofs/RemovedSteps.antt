@@ -46,7 +46,8 @@ use Rattle.immutable_trees.specs.RemovedRows.{AreGone, Gone, IsGone, all_taken, 
 use Rattle.immutable_trees.proofs.LostEntry.{IsWellFormed-after, Loses, folder_dead, loses, marked}
 use Rattle.immutable_trees.proofs.RemovedTree.{removed_is}
 use Rattle.immutable_trees.proofs.ShrunkTree.{LeavesOuter, LeavesOuter-more, LeavesOuter-refl, Shrinks, Shrinks-more, Shrinks-refl}
-use Rattle.immutable_trees.proofs.TakenRows.{IsTaking, bare_folder, bare_step, child_number, directory_of, empty_file, empty_in_tree, entry_is, gone_step, kept_step, lives_is}
+use Rattle.immutable_trees.proofs.TakenRest.{Leaves, Leaves-bare, Leaves-gone, Leaves-kept, Rest, Rest-more, Rest-refl}
+use Rattle.immutable_trees.proofs.TakenRows.{IsTaking, bare_file, bare_folder, bare_step, child_number, directory_of, empty_file, empty_in_tree, entry_is, gone_step, kept_step, lives_is}
 
 -- ---- one step after another
 
@@ -170,7 +171,8 @@ module _ (before : Tree) (now top parent : ℕ) (name : List ℕ) (well : IsWell
         by_kept : is_directory r.kind ≡ false → (kept : Bool) → lives marked_tree c.inode ≡ kept
             → IsStep t (tables_after (file_taken kept now t c g.name r) t) next 0
         by_kept own true stays = kept_step t whole v.params d r c g.name now taking_is stays well_next
-        by_kept own false goes = gone_step t whole v.params d r c g.name now taking_is own is.slots goes well_next
+        by_kept own false goes =
+            gone_step t whole v.params d r c g.name now taking_is (bare_file t whole v.params d r c g.name now taking_is own is.slots) goes well_next
 
         by_kind : (b : Bool) → is_directory r.kind ≡ b
             → IsStep t (tables_after (cond b (folder_taken t c g.name r) (file_taken g.kept now t c g.name r)) t) next 0
@@ -178,6 +180,18 @@ module _ (before : Tree) (now top parent : ℕ) (name : List ℕ) (well : IsWell
             bare_step t whole v.params d r c g.name now taking_is (bare_folder t whole v.params d r c g.name now taking_is own empty)
             (folder_dead whole shrinks.well d.mtime d.ctime now c.parent c.inode g.name.name named free empty_tree (folder_in_tree own)) well_next
         by_kind false own = by_kept own g.kept kept_is
+
+    -- the other entries stay
+    pub leaves : Leaves t (tables_after (taken now t g) t) c
+    leaves = by_kind (is_directory r.kind) refl
+      where
+        by_kept : is_directory r.kind ≡ false → (kept : Bool) → Leaves t (tables_after (file_taken kept now t c g.name r) t) c
+        by_kept own true = Leaves-kept t whole v.params d r c g.name now taking_is
+        by_kept own false = Leaves-gone t whole v.params d r c g.name now taking_is (bare_file t whole v.params d r c g.name now taking_is own is.slots)
+
+        by_kind : (b : Bool) → is_directory r.kind ≡ b → Leaves t (tables_after (cond b (folder_taken t c g.name r) (file_taken g.kept now t c g.name r)) t) c
+        by_kind true own = Leaves-bare t whole v.params d r c g.name now taking_is (bare_folder t whole v.params d r c g.name now taking_is own empty)
+        by_kind false own = by_kept own g.kept
 
     shrinks_more : Shrinks before next now
     shrinks_more = Shrinks-more before whole next d.mtime d.ctime now c.parent c.inode g.name.name shrinks named loses_it well_next
@@ -194,8 +208,9 @@ module _ (before : Tree) (now top parent : ℕ) (name : List ℕ) (well : IsWell
     pub shrinks : Shrinks before tree now
     pub outer : LeavesOuter before tree top
     pub step : IsStep first t tree 0
+    pub rest : Rest first t
 
-  all_steps : (first : Tables) (gone : List Gone) (t : Tables) → IsOnTheWay first t → AreGone now before top t gone → IsOnTheWay first (tables_after (all_taken now t gone) t)
+  pub all_steps : (first : Tables) (gone : List Gone) (t : Tables) → IsOnTheWay first t → AreGone now before top t gone → IsOnTheWay first (tables_after (all_taken now t gone) t)
   all_steps first [] t way are = way
   all_steps first (g ∷ gs) t way are =
       let u : Tables = tables_after (taken now t g) t in
@@ -208,6 +223,7 @@ module _ (before : Tree) (now top parent : ℕ) (name : List ℕ) (well : IsWell
         step =
             IsStep-trans first t u way.tree (next t way.tree g v same way.shrinks are.0) way.step (step t way.tree g v same way.shrinks are.0)
             (loses_it t way.tree g v same way.shrinks are.0).kind;
+        rest = Rest-more first t u g.entry way.rest (leaves t way.tree g v same way.shrinks are.0);
       } in
       subst (IsOnTheWay first) (tables_after-tables_after (taken now t g) (all_taken now u gs) t) (all_steps first gs u more are.1)
 
@@ -222,7 +238,7 @@ module _ (t : Tables) (whole : Tree) (directory top : Inode) (c : Content) (n : 
   way : IsOnTheWay whole now inode parent name well names t left
   way =
       all_steps whole now inode parent name well names t gone t
-      (record { tree = whole; shrinks = Shrinks-refl whole now well; outer = LeavesOuter-refl whole inode; step = IsStep-same t whole 0 v same }) are
+      (record { tree = whole; shrinks = Shrinks-refl whole now well; outer = LeavesOuter-refl whole inode; step = IsStep-same t whole 0 v same; rest = Rest-refl t }) are
 
   -- what the entry names is a directory, and it is outside
   folder_before : kind_in (node_at whole inode) ≡ Some kinds.Directory

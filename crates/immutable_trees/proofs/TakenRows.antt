@@ -82,7 +82,7 @@ module _ (t : Tables) (whole : Tree) (p : Parameters) (d r : Inode) (c : Content
   pub child_number : c.inode ≡ r.id
   child_number = number_of t c.inode r is.child
 
-  child_there : inode_at t r.id ≡ Some r
+  pub child_there : inode_at t r.id ≡ Some r
   child_there = ap (inode_at t) (sym child_number) ∙ is.child
 
   not_root : (c.inode == root) ≡ false
@@ -101,10 +101,10 @@ module _ (t : Tables) (whole : Tree) (p : Parameters) (d r : Inode) (c : Content
   id_is : c.name_id ≡ n.id
   id_is = one_number c.name_id n.id (find_passes (has_key by_name c.name_id) t.names n is.named)
 
-  abbrev unlisted : Tables
+  abbrev pub unlisted : Tables
   unlisted = record t { contents = without by_entry (c.parent, c.name_id) t.contents }
 
-  lower : IsLower unlisted p (c.inode ∷ []) [] (lowered n)
+  pub lower : IsLower unlisted p (c.inode ∷ []) [] (lowered n)
   lower =
       IsLower-lowered unlisted p n (c.inode ∷ []) []
       (subst (λ id. Owes unlisted p (c.inode ∷ []) (id ∷ [])) id_is (Owes-without_content t p c [] [] owes is.entry not_root)) (ap (name_at t) (sym id_is) ∙ is.named)
@@ -112,10 +112,10 @@ module _ (t : Tables) (whole : Tree) (p : Parameters) (d r : Inode) (c : Content
   abbrev pub cut : Tables
   cut = tables_after (taking c n) t
 
-  cut_is : cut ≡ record unlisted { names = lower.rows }
+  pub cut_is : cut ≡ record unlisted { names = lower.rows }
   cut_is = lower.after
 
-  Owes-cut : Owes cut p (c.inode ∷ []) []
+  pub Owes-cut : Owes cut p (c.inode ∷ []) []
   Owes-cut = subst (λ (u : Tables). Owes u p (c.inode ∷ []) []) (sym cut_is) lower.owes
 
   abbrev pub one : Tree
@@ -163,20 +163,20 @@ module _ (t : Tables) (whole : Tree) (p : Parameters) (d r : Inode) (c : Content
   -- ---- and without the inode
 
   module _ (bare : IsBare t r.id) where
-    bare_cut : IsBare cut r.id
+    pub bare_cut : IsBare cut r.id
     bare_cut = subst (λ (u : Tables). IsBare u r.id) (sym cut_is) (record {
       entries = list_all-without by_entry (λ (x : Content). not (x.parent == r.id)) (c.parent, c.name_id) t.contents bare.entries;
       inode_blocks = bare.inode_blocks;
       slots = bare.slots;
     })
 
-    others : (x : ℕ) → (r.id == x) ≡ false → times x [] ≡ times x (c.inode ∷ [])
+    pub others : (x : ℕ) → (r.id == x) ≡ false → times x [] ≡ times x (c.inode ∷ [])
     others x other = sym (times_other c.inode x [] (ap (λ y. y == x) child_number ∙ other))
 
-    abbrev left : Tables
+    abbrev pub left : Tables
     left = gone cut p r.id (c.inode ∷ []) [] [] Owes-cut bare_cut others
 
-    left_is : tables_after (folder_taken t c n r) t ≡ left
+    pub left_is : tables_after (folder_taken t c n r) t ≡ left
     left_is =
         sym (tables_after-tables_after (taking c n) (removal t r.id cut) t)
         ∙ ap (λ (u : Tables). tables_after (removal (record t { attrs = u.attrs; targets = u.targets }) r.id cut) cut) (sym cut_is)
@@ -213,10 +213,10 @@ module _ (t : Tables) (whole : Tree) (p : Parameters) (d r : Inode) (c : Content
       let once : times r.id (c.inode ∷ []) ≡ 1 = ap (λ y. times r.id (y ∷ [])) child_number ∙ times_first r.id [] in
       omega (arith, eqb-true r.refcount (listed_inode_count cut r.id + times r.id (c.inode ∷ [])) owed, once)
 
-  abbrev row : Inode
+  abbrev pub row : Inode
   row = counted_row (r.refcount - 1) now r
 
-  abbrev counted : Tables
+  abbrev pub counted : Tables
   counted = record cut { inodes = put by_inode row cut.inodes }
 
   owes_counted : Owes counted p [] []
@@ -307,7 +307,7 @@ module _ (t : Tables) (whole : Tree) (p : Parameters) (d r : Inode) (c : Content
 
 -- ---- with its places
 
-IsTaking-cleared : (t : Tables) (whole : Tree) (p : Parameters) (d r : Inode) (c : Content) (n : Name) (rows : List InodeBlock)
+pub IsTaking-cleared : (t : Tables) (whole : Tree) (p : Parameters) (d r : Inode) (c : Content) (n : Name) (rows : List InodeBlock)
     → IsTaking t whole p d r c n → IsTaking (cleared t rows) whole p d r c n
 IsTaking-cleared t whole p d r c n rows is = record {
   valid = IsValid-places_dropped rows t is.valid;
@@ -320,19 +320,25 @@ IsTaking-cleared t whole p d r c n rows is = record {
   child = inode_at-cleared t rows c.inode ∙ is.child;
 }
 
-pub gone_step : (t : Tables) (whole : Tree) (p : Parameters) (d r : Inode) (c : Content) (n : Name) (now : ℕ) (is : IsTaking t whole p d r c n) → is_directory r.kind ≡ false
-    → IsTrue (list_all (λ (x : Slot). not (x.inode == r.id)) t.slots) → lives (marked t whole p d r c n now is) c.inode ≡ false
-    → IsWellFormed (settled c.inode (marked t whole p d r c n now is))
-    → IsStep t (tables_after (file_taken false now t c n r) t) (settled c.inode (marked t whole p d r c n now is)) 0
-gone_step t whole p d r c n now is other slots goes well =
+-- without its places what is no directory has nothing
+pub bare_file : (t : Tables) (whole : Tree) (p : Parameters) (d r : Inode) (c : Content) (n : Name) (now : ℕ) (is : IsTaking t whole p d r c n) → is_directory r.kind ≡ false
+    → IsTrue (list_all (λ (x : Slot). not (x.inode == r.id)) t.slots) → IsBare (cleared t (places_from t r.id 0)) r.id
+bare_file t whole p d r c n now is other slots =
     let rows : List InodeBlock = places_from t r.id 0 in
-    let u : Tables = cleared t rows in
-    let next : Tree = settled c.inode (marked t whole p d r c n now is) in
-    let bare : IsBare u r.id = record {
+    record {
       entries = subst (λ (xs : List Content). IsTrue (list_all (λ (x : Content). not (x.parent == r.id)) xs)) (sym (names-cleared t rows).contents) (empty_file t whole p d r c n now is other);
       inode_blocks = no_places t is.valid r.id;
       slots = subst (λ (xs : List Slot). IsTrue (list_all (λ (x : Slot). not (x.inode == r.id)) xs)) (sym (names-cleared t rows).slots) slots;
-    } in
+    }
+
+pub gone_step : (t : Tables) (whole : Tree) (p : Parameters) (d r : Inode) (c : Content) (n : Name) (now : ℕ) (is : IsTaking t whole p d r c n)
+    → IsBare (cleared t (places_from t r.id 0)) r.id → lives (marked t whole p d r c n now is) c.inode ≡ false
+    → IsWellFormed (settled c.inode (marked t whole p d r c n now is))
+    → IsStep t (tables_after (file_taken false now t c n r) t) (settled c.inode (marked t whole p d r c n now is)) 0
+gone_step t whole p d r c n now is bare goes well =
+    let rows : List InodeBlock = places_from t r.id 0 in
+    let u : Tables = cleared t rows in
+    let next : Tree = settled c.inode (marked t whole p d r c n now is) in
     subst (λ (w : Tables). IsStep t w next 0) (sym (after_removal-cleared t rows (taking c n) r.id))
     (IsStep-gone t is.valid r.id (tables_after (folder_taken u c n r) u) next 0 (inode_at-removal u r.id (taking c n) u)
     (bare_step u whole p d r c n now (IsTaking-cleared t whole p d r c n rows is) bare goes well))

@@ -1,3 +1,4 @@
+pub mod Branches
 pub mod Levels
 pub mod LockedRows
 pub mod RemovedRows

@@ -1,6 +1,6 @@
 -- What goes of rows where a directory is removed with all below it: the entries below it one after the other, each directory once
 -- it is empty, and at last the directory's own entry.
-use Rattle.std.specs.Prelude.{◌≡◌, ℕ, ◌-◌, ◌==◌, List, [], ◌∷◌, ◌++◌, Bool, true, not, ◌||◌, nat_lt, IsTrue, Some, if◌then◌else◌}
+use Rattle.std.specs.Prelude.{◌≡◌, ℕ, ◌-◌, ◌==◌, List, [], ◌∷◌, ◌++◌, Bool, true, not, ◌||◌, nat_lt, IsTrue, Option, None, Some, if◌then◌else◌}
 use Rattle.std.specs.List.{list_all}
 use Rattle.plain_tree.specs.Below.{is_at_or_below}
 use Rattle.plain_tree.specs.Entries.{is_open}
@@ -9,12 +9,12 @@ use Rattle.s3_rows.specs.declared.change.Change.{Change}
 use Rattle.s3_rows.specs.declared.change.Change.TheVariants as changes
 use Rattle.s3_rows.specs.Batches.{tables_after}
 use Rattle.s3_rows.specs.Rows.{Content, Inode, Name}
-use Rattle.s3_rows.specs.Selections.{entry_at, inode_at, name_at}
+use Rattle.s3_rows.specs.Selections.{entry_at, inode_at, name_at, target_at}
 use Rattle.s3_rows.specs.Tables.{Tables}
 use Rattle.s3_rows.specs.Validity.{is_directory}
-use Rattle.ref_counts.specs.Links.{places_of_gone}
+use Rattle.ref_counts.specs.Links.{places_from, places_of_gone}
 use Rattle.ref_counts.specs.Names.{lowered}
-use Rattle.ref_counts.specs.Removals.{removal}
+use Rattle.ref_counts.specs.Removals.{attrs_of, removal}
 use Rattle.row_steps.specs.RowChanges.{counted_row, dropping}
 
 -- an entry that goes, its name, and the inode that it names; whether another entry or a handle keeps that
@@ -67,3 +67,14 @@ abbrev pub uprooting : ℕ → Tables → List Gone → Inode → Inode → Cont
 uprooting now t gone directory top c n =
     let left : Tables = tables_after (all_taken now t gone) t in
     all_taken now t gone ++ (dropping directory c n now ++ removal left top.id (tables_after (dropping directory c n now) left))
+
+-- the inode that a change puts
+abbrev pub inode_put : Change → Option Inode
+inode_put (changes.PutInode r) = Some r
+inode_put _ = None
+
+-- what is an inode's own is in the told tables as it is by now
+pub record HasOwn (told t : Tables) (x : ℕ) : Type 0 where
+  pub attrs : attrs_of t x ≡ attrs_of told x
+  pub target : target_at t x ≡ target_at told x
+  pub places : places_from t x 0 ≡ places_from told x 0

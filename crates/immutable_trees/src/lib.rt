@@ -1,9 +1,12 @@
-//! Trees that are made immutable.
+//! Trees that are made immutable, and removed.
 #![tactic(auto)]
 
 mod laws;
 mod lock;
+mod taken;
+mod uproot;
 mod walk;
 
 pub use laws::{locked_trees_are_steps, removed_trees_are_steps};
 pub use lock::lock_batch;
+pub use uproot::take_tree;

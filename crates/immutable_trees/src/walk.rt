@@ -19,8 +19,8 @@ use std::alloc::{AllocError, Global};
 /// A directory that the walk is in, and the name of the entry that it met there last.
 #[derive(Debug, Drop)]
 pub struct Level {
-    directory: u64,
-    last: ByteList,
+    pub(crate) directory: u64,
+    pub(crate) last: ByteList,
 }
 
 /// Locks a row. The batch stays so short that its length is a number.
@@ -37,7 +37,10 @@ fn lock_row(batch: &mut Batch, row: &InodeRow) -> Result<(), AllocError>
 }
 
 /// The entry behind the last one.
-fn next_entry<K: Keeper>(keeper: &mut K, level: &Level) -> Result<Option<NamedEntry>, KeeperFault>
+pub(crate) fn next_entry<K: Keeper>(
+    keeper: &mut K,
+    level: &Level,
+) -> Result<Option<NamedEntry>, KeeperFault>
     ensures next { IfOk result (λ found. IfTold (K.told keeper.old) (λ t. found ≡ slice_get (entries_listed t level.now.directory level.now.last 1) 0)) }
     ensures same { K.told keeper.new ≡ K.told keeper.old }
     ensures cause { HasCause (K.faults keeper.old) (K.faults keeper.new) (has_failed result) }
