@@ -1,6 +1,6 @@
 -- Outcomes as answers of the core.
-use Rattle.std.proofs.Common.{◌≡◌, ℕ, List, length, Bool, true, false, cond, not, Option, None, Some, Result, Ok, Err, refl, sym, ap, ◌∙◌, subst, inl, inr}
-use Rattle.std.specs.Prelude.{IsTrue, ◌&&◌, is_some, option_map, ◌⊎◌}
+use Rattle.std.proofs.Common.{◌≡◌, ℕ, List, Bool, true, false, cond, not, Option, None, Some, Result, Ok, Err, refl, sym, ap, ◌∙◌, subst, inl, inr}
+use Rattle.std.specs.Prelude.{IsTrue, ◌&&◌, is_some, option_map}
 use Rattle.s3_base.specs.declared.errors.Errno.{Errno}
 use Rattle.op_frames.specs.declared.operation.Op.{Op}
 use Rattle.op_frames.specs.declared.operation.Op.TheVariants as ops
@@ -8,7 +8,7 @@ use Rattle.op_frames.specs.declared.reply.Reply.{Reply}
 use Rattle.op_frames.specs.declared.reply.Reply.TheVariants as replies
 use Rattle.op_frames.specs.Replay.{Request}
 use Rattle.plain_tree.specs.Tree.{Tree}
-use Rattle.plain_tree.specs.Calls.{Answered, leaves_tree, no_memory, tree_after_reply}
+use Rattle.plain_tree.specs.Calls.{leaves_tree, no_memory, tree_after_reply}
 use Rattle.plain_tree.specs.Checks.{first_failure}
 use Rattle.plain_tree.specs.Classes.{keeps_rows, names_drawn}
 use Rattle.plain_tree.specs.Operations.{checks, effect, success, reply_to, tree_after}
@@ -25,11 +25,11 @@ use Rattle.ref_counts.proofs.Told.{IfTold-weaker}
 use Rattle.row_core.specs.declared.refusal.Refusal.{Refusal}
 use Rattle.row_core.specs.declared.refusal.Refusal.TheVariants.{Refused, Worn, Keeper, Link, Lost, Memory}
 use Rattle.row_core.specs.declared.row_core.RowCore.{RowCore}
-use Rattle.row_core.specs.Answers.{IsAnswered, IsExactReply, IsForced, IsLostReply, IsRowAnswer, changes_rows, is_keeper_fault, is_link_fault, keeper_failed, link_failed, no_space, refusal_reply}
-use Rattle.row_core.specs.Backed.{AreBackedAfter, GoesOnBacked, IsBacked, StaysStored}
+use Rattle.row_core.specs.Answers.{IsAnswered, IsExactReply, IsForced, IsRowAnswer, changes_rows, is_keeper_fault, is_link_fault, keeper_failed, link_failed, no_space, refusal_reply}
+use Rattle.row_core.specs.Backed.{AreBackedAfter, GoesOnBacked, IsBacked}
 use Rattle.row_core.specs.Causes.{IsLossFor, writes_blocks}
 use Rattle.row_core.specs.Refusals.{HasLength, IsAlike, IsDone, IsLike, IsOutcome, IsStill, Stands}
-use Rattle.row_core.specs.Standing.{StandsFor, IsToldAfter, IsToldAlike}
+use Rattle.row_core.specs.Standing.{StandsFor, IsToldAfter}
 use Rattle.row_core.proofs.Standing.{backed_still, stored_still}
 use Rattle.row_core.proofs.Successes.{success_goes_on}
 

@@ -31,7 +31,7 @@ use Rattle.row_core.specs.declared.row_core.RowCore.{RowCore}
 use Rattle.row_core.specs.Causes.{AreWornBlocks, file_used}
 use Rattle.row_core.specs.Plans.{IsTaken, IsFault, IsFull, IsOpening, IsFulfilled, is_by_plan, inode_opened, inode_of_plan, opened_by, closed_by}
 use Rattle.row_core.specs.Standing.{StandsFor, IsCommitted, IsToldAfter}
-use Rattle.row_core.specs.Refusals.{IsDone, IsStill, IsOutcome, Stands}
+use Rattle.row_core.specs.Refusals.{IsDone, IsStill, IsOutcome}
 use Rattle.row_core.proofs.Effects.{Fulfils, fulfils, no_bytes, no_trees, same_like, writes_nothing}
 use Rattle.row_core.proofs.LawsUsed.{NameLaws}
 use Rattle.row_core.proofs.Standing.{told_fact, fact_told, is_still, still_alike, stepped, stored_after, backed_after, told_after}

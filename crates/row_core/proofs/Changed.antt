@@ -1,6 +1,6 @@
 -- A file that got other bytes: the tables, what is stored and the bytes of the tree after it.
-use Rattle.std.proofs.Common.{◌≡◌, ◌<◌, ◌≤◌, ◌^◌, ◌*◌, ℕ, zero, suc, List, [], ◌∷◌, length, Bool, true, false, cond, Option, None, Some, refl, sym, ap, ◌∙◌, subst, arith, inl, inr}
-use Rattle.std.specs.Prelude.{◌==◌, ◌⊎◌, IsTrue, Contains, option_map, unwrap_or}
+use Rattle.std.proofs.Common.{◌≡◌, ◌<◌, ◌^◌, ℕ, zero, suc, List, length, true, Option, None, Some, refl, sym, ap, ◌∙◌, subst}
+use Rattle.std.specs.Prelude.{option_map, unwrap_or}
 use Rattle.std.specs.Cmp.{nat_cmp_total}
 use Rattle.s3_base.specs.declared.node_kind.Kind.TheVariants as kinds
 use Rattle.op_frames.specs.declared.reply.Reply.TheVariants as replies
@@ -11,7 +11,6 @@ use Rattle.plain_tree.specs.Operations.{attr_reply}
 use Rattle.plain_tree.specs.WellFormed.{IsWellFormed}
 use Rattle.s3_rows.specs.declared.change.Change.{Change}
 use Rattle.s3_rows.specs.declared.change.Change.TheVariants as changes
-use Rattle.s3_rows.specs.declared.params.State.{State}
 use Rattle.s3_rows.specs.declared.params.State.TheVariants as states
 use Rattle.s3_rows.specs.Rows.{Inode, Parameters}
 use Rattle.s3_rows.specs.Stores.{AreHeld}
@@ -36,18 +35,18 @@ use Rattle.core_model.specs.Exact.{IsExact}
 use Rattle.core_model.specs.Occurring.{KnowsAll, blocks_in}
 use Rattle.core_model.specs.Safe.{HaveHeld, with_new_object, with_new_objects}
 use Rattle.block_steps.specs.Owed.{KeepsNames, without_next_block}
-use Rattle.byte_steps.specs.Changed.{EndsAt, IsFileChanged, KnowsChanged}
+use Rattle.byte_steps.specs.Changed.{IsFileChanged, KnowsChanged}
 use Rattle.file_ops.specs.FileBytes.{IsFile}
 use Rattle.file_ops.specs.FileChanges.{GetsBytes, HoldsBytes, IsFileAt, IsFileStep, IsFileWritten, with_length}
 use Rattle.file_ops.specs.Placed.{ArePrepared}
 use Rattle.row_core.specs.declared.row_core.RowCore.{RowCore}
 use Rattle.row_core.specs.Backed.{AreBackedAfter, GoesOnBacked, IsBacked, StaysStored}
-use Rattle.row_core.specs.Standing.{AreServed, IsMounted, StandsFor, IsFileTold}
+use Rattle.row_core.specs.Standing.{IsMounted, StandsFor, IsFileTold}
 use Rattle.row_core.proofs.ChangedNodes.{changed_file, handles_kept, next_handle_kept, other_file, own_file, size_kept}
 use Rattle.row_core.proofs.LawsUsed.{ChangeLaws, DrawnLaws}
 use Rattle.row_core.proofs.Occurring.{knows_changed}
 use Rattle.row_core.proofs.Looking.{file_there}
-use Rattle.row_core.proofs.Standing.{becomes_told, becomes_weaker, fact_told, slots-with_new_objects, state-with_new_objects, told_fact}
+use Rattle.row_core.proofs.Standing.{becomes_told, becomes_weaker, fact_told, slots-with_new_objects, state-with_new_objects}
 
 -- ---- tables with new objects
 

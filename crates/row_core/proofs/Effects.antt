@@ -16,7 +16,6 @@ use Rattle.plain_tree.specs.Tree.{Content, Node, Tree, node_at, handle_of, chang
 use Rattle.plain_tree.specs.Attributes.{attr_of}
 use Rattle.core_rules.specs.Built.{is_built}
 use Rattle.plain_tree.specs.Classes.{Bytes, Class, Trees, class_of, is_of_entries, is_of_inodes}
-use Rattle.plain_tree.specs.WellFormed.{IsWellFormed}
 use Rattle.plain_tree.specs.Checks.{first_failure, node_check, file_check, hand_check}
 use Rattle.plain_tree.specs.Entries.{entry_at, add_entry, drop_entry, lives, unnamed}
 use Rattle.plain_tree.specs.Files.{inode_of}

@@ -3,7 +3,6 @@ use Rattle.std.proofs.Common.{◌≡◌, ℕ, List, true, Option, sym, ◌∙◌
 use Rattle.op_frames.specs.declared.operation.Op.{Op}
 use Rattle.plain_tree.specs.Tree.{Tree}
 use Rattle.s3_rows.specs.Ranges.{HasRanges}
-use Rattle.s3_rows.specs.Tables.{Tables}
 use Rattle.s3_rows.specs.Told.{Told, IfTold}
 use Rattle.s3_rows.specs.Validity.{IsValid}
 use Rattle.s3_devices.specs.Objects.{Objects}

@@ -1,6 +1,5 @@
 -- Checks of operations on the bytes of one file, over its row.
-use Rattle.std.proofs.Common.{◌≡◌, ◌<◌, ◌+◌, ℕ, List, [], ◌∷◌, length, Bool, true, false, not, Option, None, Some, Result, Ok, Err, refl, sym, ap, ◌∙◌, subst, arith}
-use Rattle.std.specs.Prelude.{◌==◌, cond}
+use Rattle.std.proofs.Common.{◌≡◌, ℕ, List, [], ◌∷◌, Bool, true, Option, None, Some, Result, Ok, Err, refl, sym, ap, ◌∙◌}
 use Rattle.s3_base.specs.declared.errors.Errno.{Errno}
 use Rattle.s3_base.specs.declared.node_kind.Kind.{Kind}
 use Rattle.s3_base.specs.declared.node_kind.Kind.TheVariants as kinds
@@ -20,11 +19,11 @@ use Rattle.ref_counts.specs.Handles.{inode_open}
 use Rattle.op_checks.specs.Rows.{row_check, file_row_check, lock_row_check, open_row_check}
 use Rattle.op_checks.proofs.Nodes.{node_there}
 use Rattle.row_core.specs.declared.refusal.Refusal.{Refusal}
-use Rattle.row_core.specs.declared.refusal.Refusal.TheVariants.{Refused, Worn, Keeper, Link, Lost, Memory}
+use Rattle.row_core.specs.declared.refusal.Refusal.TheVariants.{Refused}
 use Rattle.row_core.specs.declared.row_core.RowCore.{RowCore}
 use Rattle.row_core.specs.Rows.{IsCheckedRow, IsFound, file_checks, row_of}
 use Rattle.row_core.specs.Standing.{StandsFor}
-use Rattle.row_core.proofs.Looking.{IsOpenFile, checks_end, checks_pass, file_checks-row, handle_check-row, kind_is, open_kind, open_there}
+use Rattle.row_core.proofs.Looking.{IsOpenFile, checks_end, checks_pass, file_checks-row, handle_check-row, open_kind, open_there}
 use Rattle.row_core.proofs.Standing.{told_fact}
 
 module _ {K : Type 0} (told : K → Option Told) (before : RowCore K) (whole : Tree) (s : StandsFor told before whole) where

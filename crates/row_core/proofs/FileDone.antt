@@ -1,77 +1,39 @@
 -- A Write and a Truncate that are done.
-use Rattle.std.proofs.Common.{◌≡◌, ◌<◌, ◌≤◌, ◌+◌, ◌*◌, ◌^◌, ℕ, max, List, [], ◌∷◌, length, Bool, true, false, cond, not, Option, None, Some, Ok, refl, sym, ap, ◌∙◌, subst, arith, eqb-true, ltb-true}
-use Rattle.std.specs.Prelude.{◌==◌, nat_lt, option_and_then, option_map, unwrap_or}
-use Rattle.std.specs.Ordering.{is_eq}
-use Rattle.s3_base.specs.declared.node_kind.Kind.{Kind}
+use Rattle.std.proofs.Common.{◌≡◌, ◌<◌, ◌^◌, ℕ, List, [], ◌∷◌, length, true, false, Option, Some, sym, subst, arith}
+use Rattle.std.specs.Prelude.{◌==◌, option_map}
 use Rattle.s3_base.specs.declared.node_kind.Kind.TheVariants as kinds
-use Rattle.op_frames.specs.declared.operation.Op.{Op}
-use Rattle.op_frames.specs.declared.operation.Op.TheVariants as ops
-use Rattle.op_frames.specs.declared.reply.Attr.{Attr}
 use Rattle.op_frames.specs.declared.reply.Reply.TheVariants as replies
-use Rattle.plain_tree.specs.Tree.{Tree, change_node, handle_of}
-use Rattle.plain_tree.specs.Checks.{first_failure}
-use Rattle.plain_tree.specs.Files.{file_at, inode_of, resized, written_at}
-use Rattle.plain_tree.specs.Operations.{attr_reply, checks, effect}
+use Rattle.plain_tree.specs.Tree.{Tree}
+use Rattle.plain_tree.specs.Files.{file_at}
+use Rattle.plain_tree.specs.Operations.{attr_reply}
 use Rattle.plain_tree.specs.WellFormed.{IsWellFormed}
 use Rattle.s3_rows.specs.declared.change.Change.{Change}
-use Rattle.s3_rows.specs.Rows.{Inode, InodeBlock}
+use Rattle.s3_rows.specs.Rows.{Inode}
 use Rattle.s3_rows.specs.Stores.{AreHeld}
-use Rattle.s3_rows.specs.Tables.{Tables, by_spot}
+use Rattle.s3_rows.specs.Tables.{Tables}
 use Rattle.s3_rows.specs.Batches.{tables_after}
-use Rattle.s3_rows.specs.Selections.{block_at, inode_at, inode_block_at}
+use Rattle.s3_rows.specs.Selections.{inode_at}
 use Rattle.s3_rows.specs.Told.{Told, IfTold, with_batch}
-use Rattle.s3_rows.specs.Validity.{IsValid, is_in_file, is_regular}
+use Rattle.s3_rows.specs.Validity.{is_regular}
 use Rattle.s3_devices.specs.Keys.{objects_in}
 use Rattle.s3_devices.specs.Objects.{Objects}
 use Rattle.s3_devices.specs.Told as stores
 use Rattle.s3_devices.specs.Told.{Becomes}
-use Rattle.row_lemmas.proofs.Tests.{pair_parts}
-use Rattle.row_lemmas.proofs.Keyed.RowAt.{row_at_key, row_at_passes}
-use Rattle.tree_laws.proofs.WellFormed.{IsWellFormed-effect}
 use Rattle.tree_rows.specs.Attrs.{attr_of_row}
 use Rattle.tree_rows.specs.Contents.{Contents, HaveBytes}
-use Rattle.tree_rows.specs.Spots.{form_at, form_of_row}
 use Rattle.core_model.specs.Bytes.{HasBytes, no_overlay}
-use Rattle.core_model.specs.Changes.{blocks_of_resize, blocks_of_write}
 use Rattle.core_model.specs.Exact.{IsExact}
-use Rattle.byte_steps.specs.Changed.{EndsAt, IsFileChanged, KnowsChanged, stored_length}
+use Rattle.byte_steps.specs.Changed.{EndsAt, IsFileChanged, KnowsChanged}
 use Rattle.file_ops.specs.FileBytes.{IfBothTold}
 use Rattle.file_ops.specs.FileChanges.{GetsBytes, HoldsBytes, IsFileAt, IsFileStep, with_length}
 use Rattle.file_ops.specs.Placed.{ArePrepared}
-use Rattle.ref_counts.specs.Plans.{IsWorn}
 use Rattle.row_core.specs.declared.row_core.RowCore.{RowCore}
-use Rattle.row_core.specs.Refusals.{IsDone, IsOutcome, Stands}
+use Rattle.row_core.specs.Refusals.{Stands}
 use Rattle.row_core.specs.Standing.{StandsFor, IsToldAfter}
 use Rattle.row_core.proofs.Changed.{backed, between, file_is, is_told, next, reply_is, size-row, stands, stored}
-use Rattle.row_core.proofs.ChangedNodes.{changed_file, length-resized, length-written}
 use Rattle.row_core.proofs.LawsUsed.{ChangeLaws, DrawnLaws}
-use Rattle.row_core.proofs.Looking.{IsOpenFile, kind_is}
+use Rattle.row_core.proofs.Looking.{kind_is}
 use Rattle.row_core.proofs.Standing.{told_fact}
-
--- ---- the end of a file
-
--- a test of the row of an inode, and false without one
-abbrev begins_in_row : ℕ → ℕ → Option Inode → Bool
-begins_in_row size n found = elim found [ Some r ↦ nat_lt (n * size) r.size | None ↦ false ]
-
--- no place past the end of a file has a form
-no_form_past : (t : Tables) (valid : IsValid t) (r : Inode) (id n : ℕ) → inode_at t id ≡ Some r → r.size ≤ n * valid.params.block_size → form_at t id n ≡ None
-no_form_past t valid r id n there past = by_place (inode_block_at t id n) refl
-  where
-    inside : (x : InodeBlock) → inode_block_at t id n ≡ Some x → n * valid.params.block_size < r.size
-    inside x is =
-        let own : begins_in_row valid.params.block_size x.blockno (inode_at t x.inode) ≡ true =
-        row_at_passes by_spot (λ (l : InodeBlock). is_in_file t valid.params l.inode l.blockno) (id, n) t.inode_blocks x valid.sizes.inode_blocks is in
-        let key = pair_parts (id, n) (x.inode, x.blockno) (ap is_eq (row_at_key by_spot (id, n) t.inode_blocks x is)) in
-        ltb-true (n * valid.params.block_size) r.size
-        (ap (begins_in_row valid.params.block_size n) (sym there)
-        ∙ ap (λ (k : ℕ). begins_in_row valid.params.block_size k (inode_at t id)) key.1
-        ∙ ap (λ (k : ℕ). begins_in_row valid.params.block_size x.blockno (inode_at t k)) key.0
-        ∙ own)
-
-    by_place : (found : Option InodeBlock) → inode_block_at t id n ≡ found → option_and_then (λ (x : InodeBlock). option_map form_of_row (block_at t x.block)) found ≡ None
-    by_place None is = refl
-    by_place (Some x) is = let low : n * valid.params.block_size < r.size = inside x is in absurd (omega arith)
 
 pub positive_length : (bytes : List ℕ) → (length bytes == 0) ≡ false → 0 < length bytes
 positive_length [] some = absurd (cc some)
@@ -134,9 +96,15 @@ module _ {K : Type 0} (told : K → Option Told) (before after : RowCore K) (dig
 
   -- no place of it lies past its end
   pub ends_at : (old : List ℕ) → length old ≡ r.size → EndsAt t r.id whole.block_size (length old)
-  ends_at old is n past =
-      no_form_past t s.served.valid r r.id n there
-      (subst (λ k. k ≤ n * s.served.valid.params.block_size) is (subst (λ b. length old ≤ n * b) (sym (size-row t whole s.served.valid.params s.represents s.served.valid.is_made)) past))
+  ends_at old is =
+      let first : IsFileAt t r whole.block_size = record {
+        valid = s.served.valid;
+        slots = s.served.slots;
+        there = there;
+        regular = kind;
+        size = size-row t whole s.served.valid.params s.represents s.served.valid.is_made;
+      } in
+      subst (EndsAt t r.id whole.block_size) (sym is) (laws.ends t r whole.block_size first)
 
   module _ (well : IsWellFormed next_tree) (fact : Type 0) (is : fact)
       (turns : (old : List ℕ) (m : Contents) → file_at whole r.id ≡ Some old → length old ≡ r.size → IsFileChanged digest_of t (tables_after batch drawn_tables) whole next_tree r.id (g old) (changed t whole.block_size)

@@ -1,7 +1,6 @@
 -- Operations on the bytes of one file: how they end.
-use Rattle.std.proofs.Common.{◌≡◌, ◌<◌, ◌≤◌, ◌+◌, ◌-◌, ◌^◌, ℕ, max, min, List, [], ◌∷◌, length, take, drop, Bool, true, false, cond, not, Option, None, Some, Result, Ok, Err, refl, sym, ap, ◌∙◌, subst, inl, inr, arith, eqb-true}
-use Rattle.std.specs.Prelude.{◌==◌, ◌⊎◌, IfErr, nat_lt, option_and_then, option_map, unwrap_or, if◌then◌else◌}
-use Rattle.std.specs.Option.{IsSomeAnd}
+use Rattle.std.proofs.Common.{◌≡◌, ◌-◌, ℕ, min, List, [], length, drop, Option, None, Some, Result, Ok, Err, refl, sym, ap, ◌∙◌, subst}
+use Rattle.std.specs.Prelude.{unwrap_or}
 use Rattle.std.proofs.lemmas.List.{length-drop, length-take}
 use Rattle.s3_base.specs.declared.errors.Errno.{Errno}
 use Rattle.op_frames.specs.declared.operation.Op.{Op}
@@ -10,10 +9,9 @@ use Rattle.op_frames.specs.declared.reply.Reply.{Reply}
 use Rattle.op_frames.specs.declared.reply.Reply.TheVariants as replies
 use Rattle.plain_tree.specs.Tree.{Tree}
 use Rattle.plain_tree.specs.Checks.{first_failure}
-use Rattle.plain_tree.specs.Files.{file_at, open_file, read_at}
-use Rattle.plain_tree.specs.Operations.{checks, effect, success}
+use Rattle.plain_tree.specs.Files.{file_at, read_at}
+use Rattle.plain_tree.specs.Operations.{checks, success}
 use Rattle.s3_rows.specs.Rows.{Inode, Parameters}
-use Rattle.s3_rows.specs.Selections.{inode_at}
 use Rattle.s3_rows.specs.Tables.{Tables}
 use Rattle.s3_rows.specs.Told.{Told, IfTold}
 use Rattle.s3_devices.specs.Objects.{Objects}
@@ -21,20 +19,20 @@ use Rattle.s3_devices.specs.Told as stores
 use Rattle.core_model.specs.Changes.{touched_blocks}
 use Rattle.file_ops.specs.declared.file_fault.FileFault.{FileFault}
 use Rattle.file_ops.specs.declared.file_fault.FileFault.TheVariants as faults
-use Rattle.file_ops.specs.FileBytes.{IfFile, IsFile, stored_in}
+use Rattle.file_ops.specs.FileBytes.{IfFile, IsFile}
 use Rattle.file_ops.specs.FileFaults.{IsLossAmong}
 use Rattle.ref_counts.specs.Plans.{IsWorn}
 use Rattle.row_core.specs.declared.refusal.Refusal.{Refusal}
 use Rattle.row_core.specs.declared.refusal.Refusal.TheVariants.{Refused, Worn, Keeper, Link, Lost, Memory}
 use Rattle.row_core.specs.declared.row_core.RowCore.{RowCore}
 use Rattle.row_core.specs.Backed.{IsBacked}
-use Rattle.row_core.specs.Causes.{AreWornBlocks, IsLossFor, LacksBlocks, file_used, length_of_file, needed_by, writes_blocks}
-use Rattle.row_core.specs.Refusals.{HasLength, IsAlike, IsDone, IsLike, IsOutcome, IsStill, Stands, refusal_of}
+use Rattle.row_core.specs.Causes.{LacksBlocks, file_used, length_of_file, needed_by}
+use Rattle.row_core.specs.Refusals.{HasLength, IsAlike, IsOutcome, IsStill, refusal_of}
 use Rattle.row_core.specs.Rows.{IsFound, IsSizeRefusal}
-use Rattle.row_core.specs.Standing.{StandsFor, IsToldAfter}
+use Rattle.row_core.specs.Standing.{StandsFor}
 use Rattle.row_core.proofs.Changed.{size-row}
 use Rattle.row_core.proofs.Looking.{IsOpenFile}
-use Rattle.row_core.proofs.Standing.{backed_still, fact_told, still, still_alike, stored_still, told_fact}
+use Rattle.row_core.proofs.Standing.{backed_still, still, still_alike, stored_still, told_fact}
 
 module _ {K : Type 0} (told : K → Option Told) (before after : RowCore K) (digest_of : List ℕ → List ℕ) (objects later : Option Objects) (whole : Tree) (s : StandsFor told before whole) (pass : ℕ) (op : Op) (now : ℕ) where
   abbrev Outcome : Result Reply Refusal → Type 0

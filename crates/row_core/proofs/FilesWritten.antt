@@ -1,11 +1,9 @@
 -- A Write and a Truncate, from what was placed.
-use Rattle.std.proofs.Common.{◌≡◌, ◌<◌, ◌≤◌, ◌+◌, ◌^◌, ℕ, max, List, [], ◌∷◌, length, Bool, true, false, cond, not, Option, None, Some, Ok, Err, refl, sym, ap, ◌∙◌, subst, inr, arith, eqb-true}
+use Rattle.std.proofs.Common.{◌≡◌, ◌<◌, ◌≤◌, ◌+◌, ◌^◌, ℕ, max, List, [], ◌∷◌, length, true, false, cond, not, Option, None, Some, refl, sym, ap, ◌∙◌, subst, inr, arith, eqb-true}
 use Rattle.std.specs.Prelude.{◌==◌, ◌⊎◌, nat_lt, option_map, unwrap_or, if◌then◌else◌}
-use Rattle.s3_base.specs.declared.node_kind.Kind.TheVariants as kinds
 use Rattle.op_frames.specs.declared.operation.Op.{Op}
 use Rattle.op_frames.specs.declared.operation.Op.TheVariants as ops
 use Rattle.op_frames.specs.declared.reply.Attr.{Attr}
-use Rattle.op_frames.specs.declared.reply.Reply.{Reply}
 use Rattle.op_frames.specs.declared.reply.Reply.TheVariants as replies
 use Rattle.plain_tree.specs.Tree.{Tree, change_node, handle_of}
 use Rattle.plain_tree.specs.Checks.{first_failure}
@@ -26,12 +24,10 @@ use Rattle.s3_devices.specs.Objects.{Objects}
 use Rattle.s3_devices.specs.Told.{Becomes}
 use Rattle.tree_laws.proofs.WellFormed.{IsWellFormed-effect}
 use Rattle.tree_rows.specs.Attrs.{attr_of_row}
-use Rattle.tree_rows.specs.Contents.{Contents, HaveBytes}
 use Rattle.tree_rows.specs.Spots.{form_at}
 use Rattle.core_model.specs.Changes.{blocks_of_resize, blocks_of_write, needed_by_write}
 use Rattle.byte_steps.specs.Changed.{IsFileChanged, KnowsChanged, stored_length}
 use Rattle.file_ops.specs.declared.file_fault.FileFault.{FileFault}
-use Rattle.file_ops.specs.declared.file_fault.FileFault.TheVariants as faults
 use Rattle.file_ops.specs.FileBytes.{IfBothTold, size_of_form, stored_in}
 use Rattle.file_ops.specs.FileChanges.{AreWorn, GetsBytes, HoldsBytes, IsFileAt, IsFileStep, with_length}
 use Rattle.file_ops.specs.FileFaults.{IsLossAmong}
@@ -39,10 +35,9 @@ use Rattle.file_ops.specs.Placed.{ArePrepared}
 use Rattle.ref_counts.specs.Plans.{IsWorn}
 use Rattle.row_core.specs.declared.row_core.RowCore.{RowCore}
 use Rattle.row_core.specs.Causes.{AreWornBlocks, LacksBlocks, file_used, length_of_file, needed_by}
-use Rattle.row_core.specs.Refusals.{IsDone, IsStill, Stands}
+use Rattle.row_core.specs.Refusals.{IsDone, Stands}
 use Rattle.row_core.specs.Standing.{StandsFor, IsToldAfter}
 use Rattle.row_core.proofs.ChangedNodes.{changed_file, length-resized, length-written}
-use Rattle.row_core.proofs.Changed.{size-row}
 use Rattle.row_core.proofs.FileDone.{drawn_tables, ends_at, file_reply, file_stays, file_told, next_tree, positive_length}
 use Rattle.row_core.proofs.FileOutcomes.{length_is, same_loss}
 use Rattle.row_core.proofs.LawsUsed.{ChangeLaws, DrawnLaws}

@@ -9,7 +9,7 @@ use Rattle.plain_tree.specs.Files.{file_at}
 use Rattle.plain_tree.specs.Operations.{checks, effect}
 use Rattle.plain_tree.specs.Tree.{Tree}
 use Rattle.plain_tree.specs.WellFormed.{IsWellFormed}
-use Rattle.s3_rows.specs.Rows.{Block}
+use Rattle.s3_rows.specs.Rows.{Block, Inode}
 use Rattle.s3_rows.specs.Stores.{AreHeld}
 use Rattle.s3_rows.specs.Tables.{IsOrdered, Tables}
 use Rattle.s3_rows.specs.Validity.{IsValid, HasUniqueNames}
@@ -23,6 +23,7 @@ use Rattle.core_model.specs.Safe.{HaveHeld, Held, with_new_objects}
 use Rattle.block_steps.specs.Owed.{KeepsNames}
 use Rattle.byte_steps.specs.Changed.{EndsAt, IsFileChanged, KnowsChanged, stored_length}
 use Rattle.byte_steps.specs.Kept.{KeepsBytes}
+use Rattle.file_ops.specs.FileChanges.{IsFileAt}
 
 -- objects that are drawn
 pub record DrawnLaws : Type 0 where
@@ -50,6 +51,7 @@ pub record NameLaws : Type 0 where
 pub record ChangeLaws : Type 0 where
   pub tree : (t after : Tables) (whole : Tree) → KeepsNames t after → Represents t whole → Represents after whole
   pub unique : (t after : Tables) → KeepsNames t after → HasUniqueNames t → HasUniqueNames after
+  pub ends : (t : Tables) (file : Inode) (block_size : ℕ) → IsFileAt t file block_size → EndsAt t file.id block_size file.size
   pub bytes_written : (digest_of : List ℕ → List ℕ) (m : Contents) (t after : Tables) (whole next : Tree) (inode off : ℕ) (text old : List ℕ)
       → file_at whole inode ≡ Some old → 0 < whole.block_size → 0 < length text → EndsAt t inode whole.block_size (length old)
       → IsFileChanged digest_of t after whole next inode (written_at off text old) (blocks_of_write whole.block_size off (length text) (length old) (stored_length t inode))

@@ -1,18 +1,15 @@
 -- A core that was just opened.
-use Rattle.std.proofs.Common.{◌≡◌, ℕ, List, [], ◌∷◌, length, Bool, true, false, Option, None, Some, refl, sym, ap, ◌∙◌, subst, arith, eqb-true}
-use Rattle.std.specs.Prelude.{IsTrue, ◌==◌, ◌||◌, not, option_map, unwrap_or}
-use Rattle.std.specs.List.{list_all}
+use Rattle.std.proofs.Common.{◌≡◌, [], ◌∷◌, length, Option, Some, refl, sym, ap, ◌∙◌}
+use Rattle.std.specs.Prelude.{◌||◌, not, option_map, unwrap_or}
 use Rattle.plain_tree.specs.Tree.{Tree}
 use Rattle.s3_rows.specs.declared.change.Change.TheVariants as changes
 use Rattle.s3_rows.specs.Rows.{Parameters}
-use Rattle.s3_rows.specs.Keyed.{has_key}
-use Rattle.s3_rows.specs.Tables.{Tables, by_inode}
-use Rattle.s3_rows.specs.Selections.{inode_at}
+use Rattle.s3_rows.specs.Tables.{Tables}
 use Rattle.s3_rows.specs.Ranges.{HasRanges}
 use Rattle.s3_rows.specs.Told.{Told, one_more, with_batch}
-use Rattle.s3_rows.specs.Validity.{IsValid, is_directory, is_regular, is_below_root}
+use Rattle.s3_rows.specs.Validity.{IsValid, is_directory, is_below_root}
 use Rattle.row_lemmas.proofs.Tables.{IsOrdered-after_change, leads_to_root_same}
-use Rattle.row_lemmas.proofs.Tests.{list_all_weaker, find_passes_all}
+use Rattle.row_lemmas.proofs.Tests.{list_all_weaker}
 use Rattle.tree_rows.specs.Shapes.{shape_of_tables, Represents}
 use Rattle.tree_rows.proofs.WellFormed.Opened.{IsWellFormed_from_named}
 use Rattle.ref_counts.specs.Handles.{no_handles}

@@ -1,6 +1,6 @@
 -- A core that stands for a tree, from call to call.
-use Rattle.std.proofs.Common.{◌≡◌, ◌≢◌, ℕ, zero, suc, List, [], ◌∷◌, length, Bool, true, false, not, Option, None, Some, refl, sym, ap, ◌∙◌, subst, inl, arith, eqb-true}
-use Rattle.std.specs.Prelude.{IsTrue, ◌==◌, option_map, Result, Ok, Err, IsErrAnd}
+use Rattle.std.proofs.Common.{◌≡◌, ℕ, zero, suc, List, [], ◌∷◌, length, Bool, true, false, not, Option, None, Some, refl, sym, ap, ◌∙◌, subst, inl, arith, eqb-true}
+use Rattle.std.specs.Prelude.{◌==◌, option_map, Result, Ok, Err, IsErrAnd}
 use Rattle.s3_rows.specs.declared.change.Change.{Change}
 use Rattle.s3_rows.specs.declared.params.State.{State}
 use Rattle.s3_rows.specs.Rows.{Parameters}
@@ -11,14 +11,10 @@ use Rattle.s3_rows.specs.Told.{Told, IfTold, with_batch}
 use Rattle.s3_devices.specs.Keys.{objects_in}
 use Rattle.s3_devices.specs.Objects.{Objects}
 use Rattle.s3_devices.specs.Told.{Becomes}
-use Rattle.plain_tree.specs.Checks.{first_failure}
-use Rattle.plain_tree.specs.Classes.{Bytes, Trees, class_of}
-use Rattle.plain_tree.specs.Operations.{checks, effect}
 use Rattle.plain_tree.specs.Tree.{Tree}
 use Rattle.plain_tree.specs.WellFormed.{IsWellFormed}
 use Rattle.tree_rows.specs.Contents.{Contents}
 use Rattle.tree_rows.specs.Shapes.{Represents}
-use Rattle.core_model.specs.Exact.{IsExact}
 use Rattle.core_model.specs.Bytes.{no_overlay}
 use Rattle.core_model.specs.Occurring.{KnowsAll, blocks_in}
 use Rattle.core_model.specs.Safe.{HaveHeld, with_new_object, with_new_objects}

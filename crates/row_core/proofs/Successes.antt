@@ -1,5 +1,5 @@
 -- Replies by which operations succeed: no error, no fault, and nothing lost.
-use Rattle.std.proofs.Common.{◌≡◌, ℕ, [], Bool, false, Option, None, Some, refl}
+use Rattle.std.proofs.Common.{◌≡◌, ℕ, [], false, Option, None, Some, refl}
 use Rattle.std.specs.Prelude.{unwrap_or}
 use Rattle.op_frames.specs.declared.operation.Op.{Op}
 use Rattle.op_frames.specs.declared.operation.Op.TheVariants as ops

@@ -14,7 +14,7 @@ use crate::rows::{block_size_of, file_row, open_row};
 use block_steps::names_kept_keep_the_tree;
 use byte_steps::{changed_files_have_their_bytes, prepared_tables_keep_bytes};
 use core_model::{held_blocks_rest_on_their_objects, prepared_tables_stay_valid};
-use file_ops::{read, resize_file, write_file};
+use file_ops::{files_of_valid_tables, read, resize_file, write_file};
 use op_checks::{check_read_length, check_size, check_unlocked, check_write_end};
 use op_frames::Reply;
 use ref_counts::attr_of;
@@ -79,6 +79,7 @@ impl<K: Keeper> RowCore<K> {
         held_blocks_rest_on_their_objects();
         names_kept_keep_the_tree();
         changed_files_have_their_bytes();
+        files_of_valid_tables();
         let row = open_row(&mut self.keeper, &self.handles, pass, handle)?;
         check_unlocked(&row)?;
         check_write_end(offset, bytes)?;
@@ -121,6 +122,7 @@ impl<K: Keeper> RowCore<K> {
         held_blocks_rest_on_their_objects();
         names_kept_keep_the_tree();
         changed_files_have_their_bytes();
+        files_of_valid_tables();
         let row = file_row(&mut self.keeper, inode)?;
         check_size(size)?;
         let block_size = block_size_of(&mut self.keeper)?;

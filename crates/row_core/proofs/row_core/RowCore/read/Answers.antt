@@ -1,4 +1,4 @@
-use Rattle.std.proofs.Common.{◌≡◌, ◌-◌, ℕ, List, Bool, true, false, Option, Ok, Err, length, min, refl, sym, ap, ◌∙◌, subst}
+use Rattle.std.proofs.Common.{◌≡◌, ◌-◌, ℕ, List, true, false, Option, Ok, Err, length, min, refl, sym, ap, ◌∙◌, subst}
 use Rattle.sha2.specs.Sha256.{sha256}
 use Rattle.op_frames.specs.declared.operation.Op.TheVariants as ops
 use Rattle.op_frames.specs.declared.reply.Reply.TheVariants as replies
@@ -8,7 +8,6 @@ use Rattle.s3_rows.specs.Told.{Told}
 use Rattle.s3_devices.specs.Objects.{Objects}
 use Rattle.core_model.specs.Changes.{touched_blocks}
 use Rattle.file_ops.specs.declared.file_fault.FileFault.{FileFault}
-use Rattle.file_ops.specs.declared.file_fault.FileFault.TheVariants as faults
 use Rattle.file_ops.specs.FileBytes.{IfFile}
 use Rattle.file_ops.specs.FileFaults.{IsLossAmong, is_worn}
 use Rattle.op_checks.specs.Rows.{open_row_check}

@@ -1,12 +1,11 @@
-use Rattle.std.proofs.Common.{◌≡◌, Bool, true, false, Option, Ok, Err, refl, sym, ap, ◌∙◌, subst}
+use Rattle.std.proofs.Common.{◌≡◌, Option, Ok, Err, sym, ap, subst}
 use Rattle.sha2.specs.Sha256.{sha256}
 use Rattle.op_frames.specs.declared.reply.Reply.{Reply}
-use Rattle.op_frames.specs.declared.reply.Reply.TheVariants as replies
 use Rattle.s3_base.specs.Faults.{HasRisen}
 use Rattle.s3_devices.specs.Objects.{Objects}
 use Rattle.row_core.specs.Answers.{IsAnswered, refusal_reply}
 use Rattle.row_core.specs.declared.refusal.Refusal.{Refusal}
-use Rattle.row_core.specs.declared.refusal.Refusal.TheVariants.{Refused, Keeper, Link}
+use Rattle.row_core.specs.declared.refusal.Refusal.TheVariants.{Refused}
 use Rattle.row_core.specs.declared.row_core.RowCore.{RowCore}
 use Rattle.row_core.specs.Refusals.{has_keeper_failed, has_link_failed}
 use Rattle.row_core.proofs.Answered.{either, not_there, ok, refusal}

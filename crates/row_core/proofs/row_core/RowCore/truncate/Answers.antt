@@ -1,9 +1,9 @@
-use Rattle.std.proofs.Common.{◌≡◌, ◌<◌, ◌^◌, ℕ, List, [], ◌∷◌, Bool, true, false, Option, Some, Ok, Err, length, refl, sym, ap, ◌∙◌, subst}
+use Rattle.std.proofs.Common.{◌≡◌, ◌<◌, ◌^◌, ℕ, List, [], ◌∷◌, true, Option, Some, refl, ap, ◌∙◌, subst}
 use Rattle.std.specs.Prelude.{nat_lt, if◌then◌else◌}
 use Rattle.sha2.specs.Sha256.{sha256}
 use Rattle.op_frames.specs.declared.operation.Op.{Op}
 use Rattle.op_frames.specs.declared.operation.Op.TheVariants as ops
-use Rattle.plain_tree.specs.Files.{file_at, resized}
+use Rattle.plain_tree.specs.Files.{resized}
 use Rattle.s3_rows.specs.declared.change.Change.{Change}
 use Rattle.s3_rows.specs.declared.change.Change.TheVariants as changes
 use Rattle.s3_rows.specs.Batches.{tables_after}
@@ -18,22 +18,21 @@ use Rattle.s3_devices.specs.Told.{Becomes}
 use Rattle.core_model.specs.Changes.{blocks_of_resize}
 use Rattle.byte_steps.specs.Changed.{stored_length}
 use Rattle.file_ops.specs.declared.file_fault.FileFault.{FileFault}
-use Rattle.file_ops.specs.declared.file_fault.FileFault.TheVariants as faults
 use Rattle.file_ops.specs.FileBytes.{IfBothTold, stored_in}
 use Rattle.file_ops.specs.FileChanges.{AreWorn, GetsBytes, HoldsBytes, IsFileAt, IsFileStep, with_length}
 use Rattle.file_ops.specs.FileFaults.{IsLossAmong}
 use Rattle.tree_rows.specs.Attrs.{attr_of_row}
 use Rattle.row_core.specs.declared.refusal.Refusal.TheVariants.{Refused}
 use Rattle.row_core.specs.declared.row_core.RowCore.{RowCore}
-use Rattle.row_core.specs.Refusals.{IsOutcome, refusal_of}
+use Rattle.row_core.specs.Refusals.{refusal_of}
 use Rattle.row_core.specs.Rows.{IsCheckedRow, file_checks}
 use Rattle.row_core.proofs.FileCalls.{drawn_from, only_drawn, still_tells}
 use Rattle.row_core.proofs.FileChecks.{number, truncate_absent, truncate_passes, truncate_regular, truncate_there, truncate_too_long}
-use Rattle.row_core.proofs.FileOutcomes.{fault_outcome, row_refusal, size_known, size_refusal}
+use Rattle.row_core.proofs.FileOutcomes.{fault_outcome, row_refusal, size_known}
 use Rattle.row_core.proofs.FilesWritten.{truncate_loss, truncate_worn, truncated_done}
 use Rattle.row_core.proofs.LawsUsed.{ChangeLaws, DrawnLaws, HeldLaws}
 use Rattle.row_core.proofs.Looking.{file_there}
-use Rattle.row_core.proofs.Standing.{as_refused, faulty, is_still, still_alike}
+use Rattle.row_core.proofs.Standing.{as_refused, faulty, is_still}
 use Rattle.row_core.proofs.row_core.RowCore.truncate.Goals as goal
 
 pub returns-in_err-row-clause-outcome : goal.returns-in_err-row-clause-outcome
@@ -135,7 +134,7 @@ returns-clause-outcome g c whole pass s =
     let f = c.changed_files_have_their_bytes.ensures in
     let t = c.names_kept_keep_the_tree.ensures in
     let drawn : DrawnLaws = record { valid = v.valid; unique = v.unique; tree = v.tree; bytes = b.bytes; exact = b.exact; blocks = b.blocks } in
-    let laws : ChangeLaws = record { tree = t.tree; unique = t.unique; bytes_written = f.written; bytes_resized = f.resized; exact_written = f.written_exact; exact_resized = f.resized_exact } in
+    let laws : ChangeLaws = record { tree = t.tree; unique = t.unique; ends = c.files_of_valid_tables.ensures.ends; bytes_written = f.written; bytes_resized = f.resized; exact_written = f.written_exact; exact_resized = f.resized_exact } in
     let stepped : IfTold m (λ t. IsFileAt t r n → IsFileStep t (tables_after batch t) (with_length len c.args.now r)) = c.in_ok-batch.ensures.step in
     let held : IfTold m (λ t. IsFileAt t r n → Becomes (λ o now. AreHeld sha256 (objects_in o) t.blocks → AreHeld sha256 (objects_in now) (tables_after batch t).blocks) objects later) = c.in_ok-batch.ensures.held in
     let gets : IfBothTold (told before.keeper) objects (λ t o. IfTold m (λ x. GetsBytes sha256 t o x (tables_after batch x) r n (resized len) (blocks_of_resize n len r.size (stored_length t r.id)))) =

@@ -1,13 +1,8 @@
-use Rattle.std.proofs.Common.{◌≡◌, ◌+◌, ℕ, max, List, [], ◌∷◌, Bool, true, false, Option, None, Ok, Err, length, refl, sym, ap, ◌∙◌, subst}
-use Rattle.std.specs.Prelude.{◌==◌, IfErr}
+use Rattle.std.proofs.Common.{◌≡◌, ◌+◌, ℕ, max, List, [], ◌∷◌, Option, None, length, refl, sym, ◌∙◌, subst}
 use Rattle.sha2.specs.Sha256.{sha256}
 use Rattle.op_frames.specs.declared.operation.Op.{Op}
 use Rattle.op_frames.specs.declared.operation.Op.TheVariants as ops
-use Rattle.op_frames.specs.declared.reply.Reply.{Reply}
-use Rattle.op_frames.specs.declared.reply.Reply.TheVariants as replies
-use Rattle.plain_tree.specs.Checks.{first_failure}
 use Rattle.plain_tree.specs.Files.{written_at}
-use Rattle.plain_tree.specs.Operations.{checks}
 use Rattle.s3_rows.specs.declared.change.Change.{Change}
 use Rattle.s3_rows.specs.declared.change.Change.TheVariants as changes
 use Rattle.s3_rows.specs.Batches.{tables_after}
@@ -20,16 +15,14 @@ use Rattle.s3_devices.specs.Told.{Becomes}
 use Rattle.core_model.specs.Changes.{blocks_of_write, needed_by_write}
 use Rattle.byte_steps.specs.Changed.{stored_length}
 use Rattle.file_ops.specs.declared.file_fault.FileFault.{FileFault}
-use Rattle.file_ops.specs.declared.file_fault.FileFault.TheVariants as faults
 use Rattle.file_ops.specs.FileBytes.{IfBothTold, stored_in}
 use Rattle.file_ops.specs.FileChanges.{AreWorn, GetsBytes, HoldsBytes, IsFileAt, IsFileStep, with_length}
 use Rattle.file_ops.specs.FileFaults.{IsLossAmong}
 use Rattle.op_checks.specs.Rows.{open_row_check}
 use Rattle.ref_counts.specs.Handles.{inode_open}
-use Rattle.row_core.specs.declared.refusal.Refusal.{Refusal}
 use Rattle.row_core.specs.declared.refusal.Refusal.TheVariants.{Refused, Worn}
 use Rattle.row_core.specs.declared.row_core.RowCore.{RowCore}
-use Rattle.row_core.specs.Refusals.{IsDone, IsOutcome, IsStill, refusal_of}
+use Rattle.row_core.specs.Refusals.{refusal_of}
 use Rattle.row_core.specs.Rows.{IsCheckedRow, row_of}
 use Rattle.row_core.proofs.FileCalls.{drawn_from, only_drawn, still_tells}
 use Rattle.row_core.proofs.FileChecks.{file_open, open_regular, write_closed, write_locked, write_passes, write_too_far}
@@ -176,7 +169,7 @@ returns-clause-outcome g c whole s =
     let f = c.changed_files_have_their_bytes.ensures in
     let t = c.names_kept_keep_the_tree.ensures in
     let drawn : DrawnLaws = record { valid = v.valid; unique = v.unique; tree = v.tree; bytes = b.bytes; exact = b.exact; blocks = b.blocks } in
-    let laws : ChangeLaws = record { tree = t.tree; unique = t.unique; bytes_written = f.written; bytes_resized = f.resized; exact_written = f.written_exact; exact_resized = f.resized_exact } in
+    let laws : ChangeLaws = record { tree = t.tree; unique = t.unique; ends = c.files_of_valid_tables.ensures.ends; bytes_written = f.written; bytes_resized = f.resized; exact_written = f.written_exact; exact_resized = f.resized_exact } in
     let stepped : IfTold m (λ t. IsFileAt t r n → IsFileStep t (tables_after batch t) (with_length (max r.size (off + length bytes)) c.args.now r)) =
     subst (λ (bs : List ℕ). IfTold m (λ t. IsFileAt t r n → IsFileStep t (tables_after batch t) (with_length (max r.size (off + length bs)) c.args.now r))) c.as_slice.ensures c.in_ok-batch.ensures.step in
     let held : IfTold m (λ t. IsFileAt t r n → Becomes (λ o now. AreHeld sha256 (objects_in o) t.blocks → AreHeld sha256 (objects_in now) (tables_after batch t).blocks) objects later) = c.in_ok-batch.ensures.held in
