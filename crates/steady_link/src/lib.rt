@@ -1,0 +1,7 @@
+//! An object store in memory whose calls never fail.
+#![tactic(auto)]
+
+mod link;
+mod steady;
+
+pub use steady::SteadyLink;
