@@ -5,6 +5,7 @@ mod Counting
 mod CutFiles
 mod Drawn
 mod DrawnFiles
+mod FewPlaces
 mod FileForms
 mod FileSteps
 mod FoundPlaces

@@ -1,5 +1,5 @@
 -- Files that get other bytes: their rows, and the tables after that.
-use Rattle.std.specs.Prelude.{◌≡◌, ◌⊎◌, ℕ, ◌*◌, ◌<◌, ◌≤◌, ◌==◌, List, [], length, All, false, IsTrue, Option, None, Some, Contains}
+use Rattle.std.specs.Prelude.{◌≡◌, ◌⊎◌, ℕ, ◌+◌, ◌*◌, ◌<◌, ◌≤◌, ◌==◌, List, [], length, All, false, IsTrue, Option, None, Some, Contains, option_map, unwrap_or}
 use Rattle.block_math.specs.Blocks.{piece_of, trimmed}
 use Rattle.std.specs.List.{list_any}
 use Rattle.s3_base.specs.declared.node_kind.Kind.TheVariants as kinds
@@ -20,7 +20,7 @@ use Rattle.tree_rows.specs.Contents.{Contents, HaveBytes}
 use Rattle.tree_rows.specs.Spots.{form_at}
 use Rattle.core_model.specs.Exact.{form_of_stored}
 use Rattle.core_model.specs.Safe.{HaveHeld}
-use Rattle.block_steps.specs.Owed.{KeepsNames}
+use Rattle.block_steps.specs.Owed.{KeepsNames, next_block_of}
 use Rattle.byte_steps.specs.Changed.{KnowsChanged}
 use Rattle.file_ops.specs.declared.new_block.NewBlock.{NewBlock}
 use Rattle.file_ops.specs.FileBytes.{IsFile}
@@ -94,3 +94,15 @@ KeepsObjectsOf t before after = (object : ℕ) → IsTrue (list_any (λ r. r.obj
 -- So it is of tables that are told, whatever a call answers.
 abbrev pub KeepsObjects : Option Told → Option Objects → Option Objects → Type 0
 KeepsObjects tables before after = tellers.IfTold tables (λ t. IsValid t → HasRanges t → stores.Becomes (KeepsObjectsOf t) before after)
+
+-- ---- how much is drawn
+
+-- the next number of an object
+abbrev pub next_object_of : Tables → ℕ
+next_object_of t = unwrap_or (option_map (λ p. p.next_object) t.params) 0
+
+-- at most so many blocks and objects more are drawn, and so many places more come
+pub record AreFew (count : ℕ) (t after : Tables) : Type 0 where
+  pub blocks : next_block_of after ≤ next_block_of t + count
+  pub objects : next_object_of after ≤ next_object_of t + count
+  pub places : length after.inode_blocks ≤ length t.inode_blocks + count

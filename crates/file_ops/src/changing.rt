@@ -6,17 +6,19 @@ ghost use Rattle.s3_rows.specs.declared.change.Change.TheVariants as changes;
 ghost use Rattle.s3_rows.specs.Rows.{Inode};
 ghost use Rattle.s3_rows.specs.Batches.{tables_after};
 ghost use Rattle.s3_rows.specs.Stores.{AreHeld};
+ghost use Rattle.s3_rows.specs.Tables.{IsOrdered};
 ghost use Rattle.s3_rows.specs.Told.{IfTold};
 ghost use Rattle.s3_devices.specs.Keys.{objects_in};
 ghost use Rattle.s3_devices.specs.Told.{Becomes};
 ghost use Rattle.block_math.specs.Changes.{resized, written_at};
+ghost use Rattle.block_math.specs.Ranges.{piece_count};
 ghost use Rattle.core_model.specs.Changes.{blocks_of_resize, blocks_of_write, needed_by_write};
 ghost use Rattle.core_model.specs.Safe.{HaveHeld};
 ghost use Rattle.tree_rows.specs.Contents.{Contents};
 ghost use Rattle.byte_steps.specs.Changed.{stored_length};
 ghost use Rattle.file_ops.specs.declared.file_fault.FileFault.TheVariants.{Worn};
 ghost use Rattle.file_ops.specs.FileBytes.{IfBothTold, stored_in};
-ghost use Rattle.file_ops.specs.FileChanges.{AreInFile, AreWithin, AreWorn, GetsBytes, HoldsBytes, IsFileAt, IsFileStep, KeepsObjects, with_length};
+ghost use Rattle.file_ops.specs.FileChanges.{AreFew, AreInFile, AreWithin, AreWorn, GetsBytes, HoldsBytes, IsFileAt, IsFileStep, KeepsObjects, with_length};
 ghost use Rattle.file_ops.specs.FileFaults.{IsLossAmong, is_lost, keeper_failed, link_failed};
 ghost use Rattle.file_ops.specs.Placed.{ArePrepared, IsWornFor, KnowsBlocks};
 
@@ -65,6 +67,8 @@ fn place_within<K: Keeper, L: Link>(
     ensures bytes_held { IfOk result (λ batch. IfTold (K.told keeper.new) (λ t. (block_size : ℕ) → IsFileAt t file.now block_size → file.now.size ≤ size
         → AreWithin size block_size blocks.now → (m : Contents) → KnowsBlocks sha256 m blocks.now
         → Becomes (λ o after. HaveHeld m (objects_in o) t.blocks → HaveHeld m (objects_in after) (tables_after batch t).blocks) (L.told link.old) (L.told link.new))) }
+    ensures few { IfOk result (λ batch. IfTold (K.told keeper.old) (λ t. IfTold (K.told keeper.new) (λ later. AreFew (length blocks.now) t (tables_after batch later)))) }
+    ensures drawn { IfTold (K.told keeper.old) (λ t. IfTold (K.told keeper.new) (λ later. AreFew (length blocks.now) t later)) }
     ensures kept { KeepsObjects (K.told keeper.old) (L.told link.old) (L.told link.new) }
     ensures worn { IfErr result (λ fault. fault ≡ Worn → IfTold (K.told keeper.old) (λ t. IsWornFor sha256 t (changes.PutInode (with_length size now file.now) ∷ []) blocks.now)) }
     ensures found_all { is_lost result ≡ false }
@@ -113,6 +117,8 @@ fn place_and_cut<K: Keeper, L: Link>(
     ensures bytes_held { IfOk result (λ batch. IfTold (K.told keeper.new) (λ t. IsFileAt t file.now block_size → size ≤ file.now.size
         → AreWithin size block_size blocks.now → (m : Contents) → KnowsBlocks sha256 m blocks.now
         → Becomes (λ o after. HaveHeld m (objects_in o) t.blocks → HaveHeld m (objects_in after) (tables_after batch t).blocks) (L.told link.old) (L.told link.new))) }
+    ensures few { IfOk result (λ batch. IfTold (K.told keeper.old) (λ t. IfTold (K.told keeper.new) (λ later. IsOrdered later → AreFew (length blocks.now) t (tables_after batch later)))) }
+    ensures drawn { IfTold (K.told keeper.old) (λ t. IfTold (K.told keeper.new) (λ later. AreFew (length blocks.now) t later)) }
     ensures kept { KeepsObjects (K.told keeper.old) (L.told link.old) (L.told link.new) }
     ensures worn { IfErr result (λ fault. fault ≡ Worn → IfTold (K.told keeper.old) (λ t. IsWornFor sha256 t [] blocks.now)) }
     ensures found_all { is_lost result ≡ false }
@@ -156,6 +162,8 @@ pub fn write_file<K: Keeper, L: Link>(
         file.now block_size (written_at off new.now) (blocks_of_write block_size off (length new.now) file.now.size (stored_length t file.now.id))))) }
     ensures bytes_held { IfOk result (λ batch. IfBothTold (K.told keeper.old) (L.told link.old) (λ t o. IfTold (K.told keeper.new) (λ later. HoldsBytes sha256 t o later (tables_after batch later)
         (L.told link.new) file.now block_size (written_at off new.now) (blocks_of_write block_size off (length new.now) file.now.size (stored_length t file.now.id))))) }
+    ensures few { IfOk result (λ batch. IfTold (K.told keeper.old) (λ t. IfTold (K.told keeper.new) (λ later. AreFew (piece_count off (length new.now) block_size + 1) t (tables_after batch later)))) }
+    ensures drawn { IfTold (K.told keeper.old) (λ t. IfTold (K.told keeper.new) (λ later. AreFew (piece_count off (length new.now) block_size + 1) t later)) }
     ensures kept { KeepsObjects (K.told keeper.old) (L.told link.old) (L.told link.new) }
     ensures lost { IfErr result (IsLossAmong sha256 (K.told keeper.old) (L.told link.old) file.now.id
         (λ t. needed_by_write block_size off (length new.now) (blocks_of_write block_size off (length new.now) file.now.size (stored_in t file.now.id)))) }
@@ -204,6 +212,8 @@ pub fn resize_file<K: Keeper, L: Link>(
         file.now block_size (resized len) (blocks_of_resize block_size len file.now.size (stored_length t file.now.id))))) }
     ensures bytes_held { IfOk result (λ batch. IfBothTold (K.told keeper.old) (L.told link.old) (λ t o. IfTold (K.told keeper.new) (λ later. HoldsBytes sha256 t o later (tables_after batch later)
         (L.told link.new) file.now block_size (resized len) (blocks_of_resize block_size len file.now.size (stored_length t file.now.id))))) }
+    ensures few { IfOk result (λ batch. IfTold (K.told keeper.old) (λ t. IfTold (K.told keeper.new) (λ later. IsOrdered later → AreFew 2 t (tables_after batch later)))) }
+    ensures drawn { IfTold (K.told keeper.old) (λ t. IfTold (K.told keeper.new) (λ later. AreFew 2 t later)) }
     ensures kept { KeepsObjects (K.told keeper.old) (L.told link.old) (L.told link.new) }
     ensures lost { IfErr result (IsLossAmong sha256 (K.told keeper.old) (L.told link.old) file.now.id
         (λ t. blocks_of_resize block_size len file.now.size (stored_in t file.now.id))) }

@@ -13,6 +13,7 @@ ghost use Rattle.core_model.specs.Safe.{HaveHeld};
 ghost use Rattle.tree_rows.specs.Contents.{Contents, HaveBytes};
 ghost use Rattle.block_steps.specs.Places.{block_made, places_relinked};
 ghost use Rattle.file_ops.specs.declared.file_fault.FileFault.TheVariants.{Worn};
+ghost use Rattle.file_ops.specs.FileChanges.{AreFew};
 ghost use Rattle.file_ops.specs.FileFaults.{is_lost, keeper_failed, link_failed};
 ghost use Rattle.file_ops.specs.Placed.{AreCounted, ArePlaceable, ArePlaced, ArePrepared, ArePut, AreReady, IsWornFor, HaveTheirForms, KeepsOldObjects, KnowsBlocks, LacksNumbers, links_of, place_counted, places_counted, places_in, with_next_block};
 ghost use Rattle.file_ops.specs.Resolved.{id_of, is_new};
@@ -156,6 +157,7 @@ fn prepare_blocks<K: Keeper, L: Link>(
     ensures found { IfOk result (λ r. Becomes (AreReady sha256 blocks.now r.params r.places) (K.told keeper.old) (K.told keeper.new)) }
     ensures put { IfOk result (λ r. Becomes (ArePut blocks.now r.places) (L.told link.old) (L.told link.new)) }
     ensures prepared { Becomes ArePrepared (K.told keeper.old) (K.told keeper.new) }
+    ensures drawn { IfTold (K.told keeper.old) (λ t. IfTold (K.told keeper.new) (λ later. AreFew (length blocks.now) t later)) }
     ensures others { IfTold (K.told keeper.old) (λ t. Becomes (KeepsOldObjects (places_in sha256 t blocks.now)) (L.told link.old) (L.told link.new)) }
     ensures worn { IfErr result (λ fault. fault ≡ Worn → IfTold (K.told keeper.old) (λ t. LacksNumbers sha256 t blocks.now)) }
     ensures found_all { is_lost result ≡ false }
@@ -194,6 +196,7 @@ pub fn place_blocks<K: Keeper, L: Link>(
     requires numbers { All (λ b. b.blockno < 2 ^ 38) blocks.now }
     requires sizes { All (λ b. length b.stored ≤ 10485760) blocks.now }
     ensures prepared { Becomes ArePrepared (K.told keeper.old) (K.told keeper.new) }
+    ensures drawn { IfTold (K.told keeper.old) (λ t. IfTold (K.told keeper.new) (λ later. AreFew (length blocks.now) t later)) }
     ensures others { IfTold (K.told keeper.old) (λ t. Becomes (KeepsOldObjects (places_in sha256 t blocks.now)) (L.told link.old) (L.told link.new)) }
     ensures worn { IfErr result (λ fault. fault ≡ Worn → IfTold (K.told keeper.old) (λ t. IsWornFor sha256 t batch.old blocks.now)) }
     ensures placed { OnOk result (IfTold (K.told keeper.new) (λ t. ArePlaceable t batch.old inode blocks.now
@@ -205,6 +208,8 @@ pub fn place_blocks<K: Keeper, L: Link>(
         → Becomes (λ o after. AreHeld sha256 (objects_in o) t.blocks → AreHeld sha256 (objects_in after) (tables_after batch.new t).blocks) (L.told link.old) (L.told link.new))) }
     ensures bytes_held { OnOk result (IfTold (K.told keeper.new) (λ t. ArePlaceable t batch.old inode blocks.now → (m : Contents) → KnowsBlocks sha256 m blocks.now
         → Becomes (λ o after. HaveHeld m (objects_in o) t.blocks → HaveHeld m (objects_in after) (tables_after batch.new t).blocks) (L.told link.old) (L.told link.new))) }
+    ensures few { OnOk result (IfTold (K.told keeper.old) (λ t. IfTold (K.told keeper.new) (λ later. (tables_after batch.old later).params ≡ later.params
+        → (tables_after batch.old later).inode_blocks ≡ later.inode_blocks → AreFew (length blocks.now) t (tables_after batch.new later)))) }
     ensures found_all { is_lost result ≡ false }
     ensures keeper { HasCause (K.faults keeper.old) (K.faults keeper.new) (keeper_failed result) }
     ensures link { HasCause (L.faults link.old) (L.faults link.new) (link_failed result) }

@@ -1,6 +1,12 @@
-use Rattle.std.proofs.Common.{ap, sym}
+use Rattle.std.proofs.Common.{◌≡◌, ◌++◌, List, length, ap, sym}
 use Rattle.sha2.specs.Sha256.{sha256}
+use Rattle.s3_rows.specs.declared.change.Change.{Change}
 use Rattle.s3_rows.specs.Rows.{Inode}
+use Rattle.s3_rows.specs.Tables.{IsOrdered}
+use Rattle.s3_rows.specs.Batches.{tables_after}
+use Rattle.ref_counts.specs.Links.{places_dropped, places_from}
+use Rattle.file_ops.specs.FileChanges.{AreFew}
+use Rattle.file_ops.proofs.FewPlaces.{few_cut, told_both}
 use Rattle.s3_rows.specs.Stores.{AreHeld}
 use Rattle.s3_devices.specs.Keys.{objects_in}
 use Rattle.core_model.specs.Safe.{HaveHeld}
@@ -67,3 +73,18 @@ returns-in_err-drop_links-clause-kept g c =
 pub returns-in_err-push-clause-kept : goal.returns-in_err-push-clause-kept
 returns-in_err-push-clause-kept g c =
     keeps_objects sha256 (g.K.Keeper.told c.args.keeper.now) c.args.blocks.now (g.L.Link.told c.args.link.now) (g.L.Link.told c.place_blocks.new.link) c.place_blocks.ensures.others
+
+pub returns-clause-few : goal.returns-clause-few
+returns-clause-few g c =
+    let first = c.new-batch.result in
+    let placed = c.place_blocks.new.batch in
+    let dropped = c.drop_links.new.batch in
+    told_both
+    (λ t later. (tables_after first later).params ≡ later.params → (tables_after first later).inode_blocks ≡ later.inode_blocks → AreFew (length c.args.blocks.now) t (tables_after placed later))
+    (λ t later. IsOrdered later → AreFew (length c.args.blocks.now) t (tables_after c.push.new.self later))
+    (λ later. IsOrdered later → dropped ≡ placed ++ places_dropped (places_from later c.file.inside.id c.first_past.result) (tables_after placed later))
+    (λ t later fact drops ordered.
+    few_cut (length c.args.blocks.now) t later placed dropped c.push.new.self c.file.inside.id c.first_past.result c.with_length.result (drops ordered) c.in_ok-push.ensures.ok
+    (fact (ap (λ (b : List Change). (tables_after b later).params) c.new-batch.ensures) (ap (λ (b : List Change). (tables_after b later).inode_blocks) c.new-batch.ensures)))
+    (g.K.Keeper.told c.args.keeper.now) (g.K.Keeper.told c.place_blocks.new.keeper) (g.K.Keeper.told c.drop_links.new.keeper) c.in_ok-drop_links.ensures.same
+    c.in_ok-place_blocks.ensures.few c.in_ok-drop_links.ensures.dropped

@@ -1,10 +1,13 @@
-use Rattle.std.proofs.Common.{◌≡◌, ◌∷◌, ◌++◌, [], List, ap, ◌∙◌}
+use Rattle.std.proofs.Common.{◌≡◌, ◌∷◌, ◌++◌, [], List, length, refl, ap, ◌∙◌}
 use Rattle.sha2.specs.Sha256.{sha256}
 use Rattle.s3_rows.specs.declared.change.Change.{Change}
 use Rattle.s3_rows.specs.declared.change.Change.TheVariants as changes
 use Rattle.s3_rows.specs.Rows.{Inode}
-use Rattle.ref_counts.proofs.Told.{IfTold-weaker, IfTold-weaker2}
-use Rattle.file_ops.specs.FileChanges.{with_length}
+use Rattle.s3_rows.specs.Tables.{Tables}
+use Rattle.s3_rows.specs.Batches.{tables_after}
+use Rattle.ref_counts.proofs.Told.{IfTold-all, IfTold-weaker, IfTold-weaker2}
+use Rattle.file_ops.specs.FileChanges.{AreFew, with_length}
+use Rattle.file_ops.proofs.FewPlaces.{told_both}
 use Rattle.file_ops.proofs.FileSteps.{LongerLaws, placeable_row, placed_in_file}
 use Rattle.file_ops.proofs.KeptObjects.{keeps_objects}
 use Rattle.file_ops.proofs.changing.place_within.Goals as goal
@@ -46,3 +49,16 @@ returns-clause-kept g c =
 pub returns-in_err-place_blocks-clause-kept : goal.returns-in_err-place_blocks-clause-kept
 returns-in_err-place_blocks-clause-kept g c =
     keeps_objects sha256 (g.K.Keeper.told c.args.keeper.now) c.args.blocks.now (g.L.Link.told c.args.link.now) (g.L.Link.told c.place_blocks.new.link) c.place_blocks.ensures.others
+
+pub returns-clause-few : goal.returns-clause-few
+returns-clause-few g c =
+    let row : List Change = changes.PutInode (with_length c.args.size c.args.now c.args.file.now) ∷ [] in
+    let put : c.push.new.self ≡ row =
+    c.in_ok-push.ensures.ok ∙ ap (λ (l : List Change). l ++ changes.PutInode c.with_length.result ∷ []) c.new-batch.ensures ∙ ap (λ (r : Inode). changes.PutInode r ∷ []) c.with_length.ensures in
+    let placed = g.K.Keeper.told c.place_blocks.new.keeper in
+    told_both
+    (λ t later. (tables_after c.push.new.self later).params ≡ later.params → (tables_after c.push.new.self later).inode_blocks ≡ later.inode_blocks
+    → AreFew (length c.args.blocks.now) t (tables_after c.place_blocks.new.batch later))
+    (λ t later. AreFew (length c.args.blocks.now) t (tables_after c.place_blocks.new.batch later)) (λ later. Unit {0})
+    (λ t later fact also. fact (ap (λ (b : List Change). (tables_after b later).params) put) (ap (λ (b : List Change). (tables_after b later).inode_blocks) put))
+    (g.K.Keeper.told c.args.keeper.now) placed placed refl c.in_ok-place_blocks.ensures.few (IfTold-all placed (λ later. Unit {0}) (λ later. tt))

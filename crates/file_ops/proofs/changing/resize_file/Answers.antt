@@ -1,10 +1,12 @@
-use Rattle.std.proofs.Common.{◌≡◌, ◌≤◌, ◌∷◌, [], Option, Bool, cond, sym, ap, subst, arith}
+use Rattle.std.proofs.Common.{◌≡◌, ◌≤◌, ◌∷◌, [], List, ℕ, length, refl, Option, Bool, cond, sym, ap, subst, arith}
 use Rattle.std.specs.Prelude.{◌==◌, IfErr, IfOk, IsTrue}
 use Rattle.sha2.specs.Sha256.{sha256}
 use Rattle.block_math.specs.Changes.{resized}
 use Rattle.block_math.proofs.LengthLemmas.{length-resized}
 use Rattle.core_model.specs.Changes.{blocks_of_resize}
+use Rattle.s3_rows.specs.declared.change.Change.{Change}
 use Rattle.s3_rows.specs.declared.change.Change.TheVariants as changes
+use Rattle.s3_rows.specs.Tables.{IsOrdered, Tables}
 use Rattle.s3_rows.specs.Batches.{tables_after}
 use Rattle.s3_rows.specs.Rows.{Inode}
 use Rattle.s3_rows.specs.Stores.{AreHeld}
@@ -15,15 +17,17 @@ use Rattle.s3_devices.specs.Objects.{Objects}
 use Rattle.s3_devices.specs.Told.{Becomes}
 use Rattle.tree_rows.specs.Contents.{Contents}
 use Rattle.core_model.specs.Safe.{HaveHeld}
-use Rattle.ref_counts.proofs.Told.{IfTold-weaker}
+use Rattle.ref_counts.proofs.Told.{IfTold-all, IfTold-weaker}
 use Rattle.file_ops.specs.declared.file_fault.FileFault.TheVariants.{Worn}
 use Rattle.file_ops.specs.declared.new_block.NewBlock.{NewBlock}
 use Rattle.file_ops.specs.FileBytes.{IfFile, stored_in}
-use Rattle.file_ops.specs.FileChanges.{AreInFile, AreWorn, IsFileAt, with_length, KeepsObjects}
+use Rattle.file_ops.specs.FileChanges.{AreFew, AreInFile, AreWorn, IsFileAt, with_length, KeepsObjects}
 use Rattle.file_ops.specs.NewBlocks.{AreBlocksOf, numbers_of}
 use Rattle.file_ops.specs.Placed.{ArePrepared, IsWornFor, KnowsBlocks}
 use Rattle.file_ops.proofs.ChangedNumbers.{distinct_of_resize}
 use Rattle.file_ops.proofs.WrittenFiles.{bytes_answer, changed_answer, grown_answer, is_less, is_not_less, less_answer, step_answer, worn_answer}
+use Rattle.file_ops.proofs.FewPlaces.{few_answer, few_more, resized_few, told_both, told_few_same}
+use Rattle.file_ops.proofs.FileSteps.{IfOk-weaker}
 use Rattle.file_ops.proofs.KeptObjects.{keeps_same}
 use Rattle.file_ops.proofs.changing.resize_file.Goals as goal
 
@@ -254,3 +258,52 @@ returns-clause-kept g c =
 pub returns-in_err-blocks-clause-kept : goal.returns-in_err-blocks-clause-kept
 returns-in_err-blocks-clause-kept g c =
     keeps_same (g.K.Keeper.told c.args.keeper.now) (g.L.Link.told c.args.link.now) (g.L.Link.told c.resized_blocks.new.link) c.resized_blocks.ensures.link_same
+
+pub returns-then-len-file-clause-few : goal.returns-then-len-file-clause-few
+returns-then-len-file-clause-few g c =
+    let before = g.K.Keeper.told c.args.keeper.now in
+    let middle = g.K.Keeper.told c.resized_blocks.new.keeper in
+    let after = g.K.Keeper.told c.place_and_cut.new.keeper in
+    IfOk-weaker (λ (batch : List Change). IfTold middle (λ t. IfTold after (λ later. IsOrdered later → AreFew (length c.as_slice-new.result.now) t (tables_after batch later))))
+    (λ (batch : List Change). IfTold before (λ t. IfTold after (λ later. IsOrdered later → AreFew 2 t (tables_after batch later))))
+    (λ batch few.
+    few_answer (λ n t later. IsOrdered later → AreFew n t (tables_after batch later)) (λ a b t later less fact ordered. few_more a b t (tables_after batch later) less (fact ordered)) before middle after 2
+    c.in_ok-blocks.blocks.items c.as_slice-new.result.now (λ t. blocks_of_resize c.args.block_size c.args.len c.file.inside.size (stored_in t c.file.inside.id))
+    c.in_ok-blocks.ensures.keeper_same c.as_slice-new.ensures.value c.in_ok-blocks.ensures.numbers
+    (λ t. resized_few c.args.block_size c.args.len c.file.inside.size (stored_in t c.file.inside.id)) few)
+    c.place_and_cut.result c.place_and_cut.ensures.few
+
+pub returns-clause-few : goal.returns-clause-few
+returns-clause-few g c =
+    let before = g.K.Keeper.told c.args.keeper.now in
+    let middle = g.K.Keeper.told c.resized_blocks.new.keeper in
+    let after = g.K.Keeper.told c.place_within.new.keeper in
+    IfOk-weaker (λ (batch : List Change). IfTold middle (λ t. IfTold after (λ later. AreFew (length c.as_slice-new.result.now) t (tables_after batch later))))
+    (λ (batch : List Change). IfTold before (λ t. IfTold after (λ later. IsOrdered later → AreFew 2 t (tables_after batch later))))
+    (λ batch few.
+    told_both (λ t later. AreFew 2 t (tables_after batch later)) (λ t later. IsOrdered later → AreFew 2 t (tables_after batch later)) (λ later. Unit {0}) (λ t later fact also ordered. fact)
+    before after after refl
+    (few_answer (λ n t later. AreFew n t (tables_after batch later)) (λ a b t later less fact. few_more a b t (tables_after batch later) less fact) before middle after 2
+    c.in_ok-blocks.blocks.items c.as_slice-new.result.now (λ t. blocks_of_resize c.args.block_size c.args.len c.file.inside.size (stored_in t c.file.inside.id))
+    c.in_ok-blocks.ensures.keeper_same c.as_slice-new.ensures.value c.in_ok-blocks.ensures.numbers
+    (λ t. resized_few c.args.block_size c.args.len c.file.inside.size (stored_in t c.file.inside.id)) few)
+    (IfTold-all after (λ later. Unit {0}) (λ later. tt)))
+    c.place_within.result c.place_within.ensures.few
+
+pub returns-then-len-file-clause-drawn : goal.returns-then-len-file-clause-drawn
+returns-then-len-file-clause-drawn g c =
+    few_answer AreFew few_more (g.K.Keeper.told c.args.keeper.now) (g.K.Keeper.told c.resized_blocks.new.keeper) (g.K.Keeper.told c.place_and_cut.new.keeper) 2
+    c.in_ok-blocks.blocks.items c.as_slice-new.result.now (λ t. blocks_of_resize c.args.block_size c.args.len c.file.inside.size (stored_in t c.file.inside.id))
+    c.in_ok-blocks.ensures.keeper_same c.as_slice-new.ensures.value c.in_ok-blocks.ensures.numbers
+    (λ t. resized_few c.args.block_size c.args.len c.file.inside.size (stored_in t c.file.inside.id)) c.place_and_cut.ensures.drawn
+
+pub returns-clause-drawn : goal.returns-clause-drawn
+returns-clause-drawn g c =
+    few_answer AreFew few_more (g.K.Keeper.told c.args.keeper.now) (g.K.Keeper.told c.resized_blocks.new.keeper) (g.K.Keeper.told c.place_within.new.keeper) 2
+    c.in_ok-blocks.blocks.items c.as_slice-new.result.now (λ t. blocks_of_resize c.args.block_size c.args.len c.file.inside.size (stored_in t c.file.inside.id))
+    c.in_ok-blocks.ensures.keeper_same c.as_slice-new.ensures.value c.in_ok-blocks.ensures.numbers
+    (λ t. resized_few c.args.block_size c.args.len c.file.inside.size (stored_in t c.file.inside.id)) c.place_within.ensures.drawn
+
+pub returns-in_err-blocks-clause-drawn : goal.returns-in_err-blocks-clause-drawn
+returns-in_err-blocks-clause-drawn g c =
+    told_few_same 2 (g.K.Keeper.told c.args.keeper.now) (g.K.Keeper.told c.resized_blocks.new.keeper) c.resized_blocks.ensures.keeper_same

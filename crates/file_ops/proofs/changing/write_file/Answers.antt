@@ -1,8 +1,10 @@
-use Rattle.std.proofs.Common.{◌≡◌, ◌+◌, ◌*◌, ◌<◌, ◌≤◌, ◌∷◌, [], ℕ, length, get_or, max, Option, sym, ap, ◌∙◌, subst, arith}
+use Rattle.std.proofs.Common.{◌≡◌, ◌+◌, ◌*◌, ◌<◌, ◌≤◌, ◌∷◌, [], List, ℕ, length, get_or, max, Option, sym, ap, ◌∙◌, subst, arith}
 use Rattle.std.specs.Prelude.{◌==◌, IfErr, IfOk, IsTrue}
 use Rattle.sha2.specs.Sha256.{sha256}
 use Rattle.block_math.specs.Changes.{written_at}
 use Rattle.core_model.specs.Changes.{blocks_of_write}
+use Rattle.block_math.specs.Ranges.{piece_count}
+use Rattle.s3_rows.specs.declared.change.Change.{Change}
 use Rattle.s3_rows.specs.declared.change.Change.TheVariants as changes
 use Rattle.s3_rows.specs.Batches.{tables_after}
 use Rattle.s3_rows.specs.Rows.{Inode}
@@ -18,11 +20,13 @@ use Rattle.ref_counts.proofs.Told.{IfTold-weaker}
 use Rattle.file_ops.specs.declared.file_fault.FileFault.TheVariants.{Worn}
 use Rattle.file_ops.specs.declared.new_block.NewBlock.{NewBlock}
 use Rattle.file_ops.specs.FileBytes.{IfFile, stored_in}
-use Rattle.file_ops.specs.FileChanges.{AreInFile, AreWorn, IsFileAt, IsFileStep, KeepsObjects, with_length}
+use Rattle.file_ops.specs.FileChanges.{AreFew, AreInFile, AreWorn, IsFileAt, IsFileStep, KeepsObjects, with_length}
 use Rattle.file_ops.specs.NewBlocks.{AreBlocksOf, numbers_of}
 use Rattle.file_ops.specs.Placed.{ArePrepared, IsWornFor, KnowsBlocks}
 use Rattle.file_ops.proofs.ChangedNumbers.{distinct_of_write}
 use Rattle.file_ops.proofs.WrittenFiles.{bytes_answer, changed_answer, grown_answer, length-written, step_answer, worn_answer}
+use Rattle.file_ops.proofs.FewPlaces.{few_answer, few_more, told_few_same, written_few}
+use Rattle.file_ops.proofs.FileSteps.{IfOk-weaker}
 use Rattle.file_ops.proofs.KeptObjects.{keeps_same}
 use Rattle.file_ops.proofs.changing.write_file.Goals as goal
 
@@ -158,3 +162,32 @@ returns-clause-kept g c =
 pub returns-in_err-blocks-clause-kept : goal.returns-in_err-blocks-clause-kept
 returns-in_err-blocks-clause-kept g c =
     keeps_same (g.K.Keeper.told c.args.keeper.now) (g.L.Link.told c.args.link.now) (g.L.Link.told c.written_blocks.new.link) c.written_blocks.ensures.link_same
+
+pub returns-clause-few : goal.returns-clause-few
+returns-clause-few g c =
+    let count : ℕ = length c.args.new.now in
+    let before = g.K.Keeper.told c.args.keeper.now in
+    let middle = g.K.Keeper.told c.written_blocks.new.keeper in
+    let after = g.K.Keeper.told c.place_within.new.keeper in
+    let most : ℕ = piece_count c.args.off count c.args.block_size + 1 in
+    IfOk-weaker (λ (batch : List Change). IfTold middle (λ t. IfTold after (λ later. AreFew (length c.as_slice.result.now) t (tables_after batch later))))
+    (λ (batch : List Change). IfTold before (λ t. IfTold after (λ later. AreFew most t (tables_after batch later))))
+    (λ batch few.
+    few_answer (λ n t later. AreFew n t (tables_after batch later)) (λ a b t later less fact. few_more a b t (tables_after batch later) less fact) before middle after most
+    c.in_ok-blocks.blocks.items c.as_slice.result.now (λ t. blocks_of_write c.args.block_size c.args.off count c.file.inside.size (stored_in t c.file.inside.id))
+    c.in_ok-blocks.ensures.keeper_same c.as_slice.ensures.value c.in_ok-blocks.ensures.numbers
+    (λ t. written_few c.args.block_size c.args.off count c.file.inside.size (stored_in t c.file.inside.id)) few)
+    c.place_within.result c.place_within.ensures.few
+
+pub returns-clause-drawn : goal.returns-clause-drawn
+returns-clause-drawn g c =
+    let count : ℕ = length c.args.new.now in
+    few_answer AreFew few_more (g.K.Keeper.told c.args.keeper.now) (g.K.Keeper.told c.written_blocks.new.keeper) (g.K.Keeper.told c.place_within.new.keeper)
+    (piece_count c.args.off count c.args.block_size + 1) c.in_ok-blocks.blocks.items c.as_slice.result.now
+    (λ t. blocks_of_write c.args.block_size c.args.off count c.file.inside.size (stored_in t c.file.inside.id)) c.in_ok-blocks.ensures.keeper_same c.as_slice.ensures.value c.in_ok-blocks.ensures.numbers
+    (λ t. written_few c.args.block_size c.args.off count c.file.inside.size (stored_in t c.file.inside.id)) c.place_within.ensures.drawn
+
+pub returns-in_err-blocks-clause-drawn : goal.returns-in_err-blocks-clause-drawn
+returns-in_err-blocks-clause-drawn g c =
+    told_few_same (piece_count c.args.off (length c.args.new.now) c.args.block_size + 1) (g.K.Keeper.told c.args.keeper.now) (g.K.Keeper.told c.written_blocks.new.keeper)
+    c.written_blocks.ensures.keeper_same

@@ -1,6 +1,7 @@
-use Rattle.std.proofs.Common.{List, sym, subst, ◌∙◌}
+use Rattle.std.proofs.Common.{◌≡◌, List, length, sym, subst, ◌∙◌}
 use Rattle.sha2.specs.Sha256.{sha256}
 use Rattle.s3_rows.specs.Batches.{tables_after}
+use Rattle.s3_rows.specs.Tables.{Tables}
 use Rattle.s3_rows.specs.Told.{Told}
 use Rattle.s3_rows.specs.Stores.{AreHeld}
 use Rattle.s3_devices.specs.Keys.{objects_in}
@@ -10,6 +11,8 @@ use Rattle.tree_rows.specs.Contents.{Contents, HaveBytes}
 use Rattle.ref_counts.proofs.Told.{IfTold-same}
 use Rattle.file_ops.specs.declared.place.Place.{Place}
 use Rattle.file_ops.specs.Placed.{ArePlaceable, ArePlaced, AreReady, ArePut, HaveTheirForms, KnowsBlocks}
+use Rattle.file_ops.specs.FileChanges.{AreFew}
+use Rattle.file_ops.proofs.FewPlaces.{both_told, few_placed}
 use Rattle.file_ops.proofs.PutObjects.{Becomes-follows}
 use Rattle.file_ops.proofs.NamedBlocks.{IfTold-becomes, were_placed}
 use Rattle.file_ops.proofs.placing.place_blocks.Goals as goal
@@ -99,6 +102,26 @@ returns-clause-bytes_held g c =
     c.placed_blocks_leave_valid_tables.ensures.bytes_held sha256 inode blocks s after batch now did able m knows o o2
     (subst (λ (l : List Place). ArePut blocks l o o2) (sym (same ∙ c.as_slice-places.ensures)) put))
     before since c.in_ok-prepared.ensures.put)
+    first drawn linked c.if-not-branch.false (c.in_ok-relink_places.ensures.same ∙ c.in_ok-count_places.ensures.same)
+    (subst (λ (l : List Place). Becomes (AreReady sha256 blocks c.in_ok-prepared.prepared.params l) first drawn) (sym c.as_slice-places.ensures) c.in_ok-prepared.ensures.found)
+    c.in_ok-count_places.ensures.counted
+    (IfTold-same linked (g.K.Keeper.told c.count_places.new.keeper) _ (sym c.in_ok-relink_places.ensures.same) c.in_ok-relink_places.ensures.relinked))
+
+pub returns-clause-few : goal.returns-clause-few
+returns-clause-few g c =
+    let inode = c.args.inode in
+    let blocks = c.args.blocks.now in
+    let batch = c.args.batch.now in
+    let now = c.relink_places.new.batch in
+    let first = g.K.Keeper.told c.args.keeper.now in
+    let drawn = g.K.Keeper.told c.prepare_blocks.new.keeper in
+    let linked = g.K.Keeper.told c.relink_places.new.keeper in
+    let P : Tables → Tables → Type 0 = λ t later. (tables_after batch later).params ≡ later.params → (tables_after batch later).inode_blocks ≡ later.inode_blocks
+    → AreFew (length blocks) t (tables_after now later) in
+    let Q : Told → Told → Type 0 = λ s after. P s.tables after.tables in
+    both_told Q P (λ a b fact. fact) first linked
+    (were_placed sha256 inode blocks c.in_ok-prepared.prepared.params c.as_slice-places.result.now batch c.count_places.new.batch now c.in_ok-count_places.field-0 Q
+    (λ s after did same. few_placed sha256 inode blocks s after batch now did)
     first drawn linked c.if-not-branch.false (c.in_ok-relink_places.ensures.same ∙ c.in_ok-count_places.ensures.same)
     (subst (λ (l : List Place). Becomes (AreReady sha256 blocks c.in_ok-prepared.prepared.params l) first drawn) (sym c.as_slice-places.ensures) c.in_ok-prepared.ensures.found)
     c.in_ok-count_places.ensures.counted
