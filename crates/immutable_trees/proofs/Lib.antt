@@ -7,6 +7,7 @@ pub mod LostEntry
 pub mod Nearer
 pub mod NextNames
 pub mod Reached
+pub mod RemovalPlanned
 pub mod RemovedSteps
 pub mod RemovedTree
 pub mod ShrunkTree

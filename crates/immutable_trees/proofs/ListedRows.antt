@@ -133,7 +133,7 @@ module _ (told u w : Tables) (c : Content) (there : IsThere told c) (leaves : Le
 
 -- ---- each entry is listed
 
-same_row : {R : Type 0} (alike : R → R → Bool) (p q : R → Bool) (rows : List R) (a b : R) → IsTrue (differ alike rows) → find p rows ≡ Some a → find q rows ≡ Some b
+pub same_row : {R : Type 0} (alike : R → R → Bool) (p q : R → Bool) (rows : List R) (a b : R) → IsTrue (differ alike rows) → find p rows ≡ Some a → find q rows ≡ Some b
     → IsTrue (alike a b) → IsTrue (alike b a) → a ≡ b
 same_row alike p q [] a b unlike first second one two = absurd (cc first)
 same_row alike p q (r ∷ rs) a b unlike first second one two =

@@ -1,5 +1,7 @@
 -- The rows of a removal: entries one after the other, each a step, and at last the directory's own.
 use Rattle.std.proofs.Common.{◌≡◌, ℕ, List, [], ◌∷◌, ◌++◌, Bool, true, false, cond, Option, None, Some, refl, sym, ap, ◌∙◌, subst, arith}
+use Rattle.std.proofs.lemmas.Bool.{both_ways}
+use Rattle.std.specs.Ordering.{is_eq}
 use Rattle.std.specs.Prelude.{IsTrue, not, ◌==◌, is_some, option_and_then, option_map}
 use Rattle.std.specs.List.{list_all}
 use Rattle.s3_base.specs.Numbers.{root}
@@ -46,7 +48,7 @@ use Rattle.immutable_trees.specs.RemovedRows.{AreGone, Gone, IsGone, all_taken, 
 use Rattle.immutable_trees.proofs.LostEntry.{IsWellFormed-after, Loses, folder_dead, loses, marked}
 use Rattle.immutable_trees.proofs.RemovedTree.{removed_is}
 use Rattle.immutable_trees.proofs.ShrunkTree.{LeavesOuter, LeavesOuter-more, LeavesOuter-refl, Shrinks, Shrinks-more, Shrinks-refl}
-use Rattle.immutable_trees.proofs.TakenRest.{Leaves, Leaves-bare, Leaves-gone, Leaves-kept, Rest, Rest-more, Rest-refl}
+use Rattle.immutable_trees.proofs.TakenRest.{Leaves, entry_left, Leaves-bare, Leaves-gone, Leaves-kept, Rest, Rest-more, Rest-refl}
 use Rattle.immutable_trees.proofs.TakenRows.{IsTaking, bare_file, bare_folder, bare_step, child_number, directory_of, empty_file, empty_in_tree, entry_is, gone_step, kept_step, lives_is}
 
 -- ---- one step after another
@@ -209,6 +211,18 @@ module _ (before : Tree) (now top parent : ℕ) (name : List ℕ) (well : IsWell
     pub outer : LeavesOuter before tree top
     pub step : IsStep first t tree 0
     pub rest : Rest first t
+    pub kept : (q name_id : ℕ) → is_at_or_below before top q ≡ false → selections.entry_at t q name_id ≡ selections.entry_at first q name_id
+
+  outer_entry : (t w : Tables) (c : Content) → Leaves t w c → is_at_or_below before top c.parent ≡ true → (q name_id : ℕ) → is_at_or_below before top q ≡ false
+      → selections.entry_at w q name_id ≡ selections.entry_at t q name_id
+  outer_entry t w c left inside q name_id out =
+      entry_left t w c left q name_id ∙ by_case (is_eq (by_entry.compare (c.parent, c.name_id) (q, name_id))) refl
+    where
+      by_case : (b : Bool) → is_eq (by_entry.compare (c.parent, c.name_id) (q, name_id)) ≡ b → cond b None (selections.entry_at t q name_id) ≡ selections.entry_at t q name_id
+      by_case true is =
+          let parts = pair_parts (c.parent, c.name_id) (q, name_id) is in
+          absurd (both_ways (is_at_or_below before top q) out (ap (is_at_or_below before top) (sym parts.0) ∙ inside))
+      by_case false is = refl
 
   pub all_steps : (first : Tables) (gone : List Gone) (t : Tables) → IsOnTheWay first t → AreGone now before top t gone → IsOnTheWay first (tables_after (all_taken now t gone) t)
   all_steps first [] t way are = way
@@ -224,6 +238,7 @@ module _ (before : Tree) (now top parent : ℕ) (name : List ℕ) (well : IsWell
             IsStep-trans first t u way.tree (next t way.tree g v same way.shrinks are.0) way.step (step t way.tree g v same way.shrinks are.0)
             (loses_it t way.tree g v same way.shrinks are.0).kind;
         rest = Rest-more first t u g.entry way.rest (leaves t way.tree g v same way.shrinks are.0);
+        kept = λ q name_id out. outer_entry t u g.entry (leaves t way.tree g v same way.shrinks are.0) are.0.inside q name_id out ∙ way.kept q name_id out;
       } in
       subst (IsOnTheWay first) (tables_after-tables_after (taken now t g) (all_taken now u gs) t) (all_steps first gs u more are.1)
 
@@ -238,7 +253,7 @@ module _ (t : Tables) (whole : Tree) (directory top : Inode) (c : Content) (n : 
   way : IsOnTheWay whole now inode parent name well names t left
   way =
       all_steps whole now inode parent name well names t gone t
-      (record { tree = whole; shrinks = Shrinks-refl whole now well; outer = LeavesOuter-refl whole inode; step = IsStep-same t whole 0 v same; rest = Rest-refl t }) are
+      (record { tree = whole; shrinks = Shrinks-refl whole now well; outer = LeavesOuter-refl whole inode; step = IsStep-same t whole 0 v same; rest = Rest-refl t; kept = λ q name_id out. refl }) are
 
   -- what the entry names is a directory, and it is outside
   folder_before : kind_in (node_at whole inode) ≡ Some kinds.Directory

@@ -93,7 +93,7 @@ module _ (told : Tables) (whole : Tree) (v : IsValid told) (same : Represents to
     way =
         subst (λ (b : List Change). IsOnTheWay whole now top parent name well names told (tables_after b told)) (sym has.is)
         (all_steps whole now top parent name well names told has.gone told
-        (record { tree = whole; shrinks = Shrinks-refl whole now well; outer = LeavesOuter-refl whole top; step = IsStep-same told whole 0 v same; rest = Rest-refl told }) has.are)
+        (record { tree = whole; shrinks = Shrinks-refl whole now well; outer = LeavesOuter-refl whole top; step = IsStep-same told whole 0 v same; rest = Rest-refl told; kept = λ q id out. refl }) has.are)
 
     valid : IsValid u
     valid = way.step.valid

@@ -1,4 +1,5 @@
 pub mod Branches
 pub mod Levels
 pub mod LockedRows
+pub mod Removals
 pub mod RemovedRows

@@ -62,11 +62,13 @@ abbrev pub AreGone : ℕ → Tree → ℕ → Tables → List Gone → Type 0
 AreGone now whole top t [] = Unit {0}
 AreGone now whole top t (g ∷ gs) = IsGone whole top t g × AreGone now whole top (tables_after (taken now t g) t) gs
 
--- and at last the directory goes with its own entry, whose directory is touched
+-- the entry of a directory that goes, where the one that it is in is touched
+abbrev pub uprooted : ℕ → Tables → Inode → Inode → Content → Name → List Change
+uprooted now t directory top c n = dropping directory c n now ++ removal t top.id (tables_after (dropping directory c n now) t)
+
+-- and that of the first directory at last
 abbrev pub uprooting : ℕ → Tables → List Gone → Inode → Inode → Content → Name → List Change
-uprooting now t gone directory top c n =
-    let left : Tables = tables_after (all_taken now t gone) t in
-    all_taken now t gone ++ (dropping directory c n now ++ removal left top.id (tables_after (dropping directory c n now) left))
+uprooting now t gone directory top c n = all_taken now t gone ++ uprooted now (tables_after (all_taken now t gone) t) directory top c n
 
 -- the inode that a change puts
 abbrev pub inode_put : Change → Option Inode

@@ -3,10 +3,11 @@
 
 mod laws;
 mod lock;
+mod removal;
 mod taken;
 mod uproot;
 mod walk;
 
 pub use laws::{locked_trees_are_steps, removed_trees_are_steps};
 pub use lock::lock_batch;
-pub use uproot::take_tree;
+pub use removal::plan_removal;

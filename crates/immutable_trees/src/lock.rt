@@ -33,7 +33,7 @@ fn check_top(found: Option<InodeRow>, inode: u64) -> Result<InodeRow, Errno>
 }
 
 /// The batch is committed, and the reply is Done.
-fn with_done(alloc: Global, batch: Option<Batch>) -> Plan
+pub(crate) fn with_done(alloc: Global, batch: Option<Batch>) -> Plan
     ensures plan { result ≡ lock_plan batch }
     ensures fit { HasFitReply result }
 {

@@ -170,7 +170,7 @@ fn turn<K: Keeper>(
 /// The batch that takes all entries below a directory, which stays, empty. None where an entry names an inode that has no row. The
 /// walk keeps one name and one entry for each directory on the way down. Where it took as many turns as a number can count there is
 /// no memory for the batch.
-pub fn take_tree<K: Keeper>(
+pub(crate) fn take_tree<K: Keeper>(
     alloc: Global,
     keeper: &mut K,
     handles: &Handles,
