@@ -2,23 +2,18 @@
 ghost use Rattle.std.specs.Prelude.{◌≡◌, ◌<◌, ◌^◌, ◌++◌, ℕ, List, [], ◌∷◌, None, Some, IfOk, OnOk};
 ghost use Rattle.s3_base.specs.Faults.{HasCause};
 ghost use Rattle.op_frames.specs.declared.operation.Op.TheVariants as ops;
-ghost use Rattle.plain_tree.specs.Checks.{first_failure};
-ghost use Rattle.plain_tree.specs.Operations.{drop_checks};
 ghost use Rattle.plain_tree.specs.Tree.{Tree};
-ghost use Rattle.plain_tree.specs.WellFormed.{IsWellFormed};
 ghost use Rattle.s3_rows.specs.declared.change.Change.TheVariants as changes;
 ghost use Rattle.s3_rows.specs.Batches.{tables_after};
 ghost use Rattle.s3_rows.specs.Rows.{Inode, Name};
-ghost use Rattle.s3_rows.specs.Selections.{bytes_of_name, inode_at, name_at};
+ghost use Rattle.s3_rows.specs.Selections.{name_at};
 ghost use Rattle.s3_rows.specs.Tables.{IsOrdered};
 ghost use Rattle.s3_rows.specs.Told.{IfTold, has_failed};
-ghost use Rattle.s3_rows.specs.Validity.{HasUniqueNames, IsValid};
-ghost use Rattle.tree_rows.specs.Shapes.{Represents};
 ghost use Rattle.op_checks.specs.Rows.{directory_row_check};
 ghost use Rattle.ref_counts.specs.Handles.{HasHandles};
 ghost use Rattle.ref_counts.specs.Plans.{HasFitReply, IsPlanOf};
 ghost use Rattle.row_steps.specs.RowChanges.{touched_row};
-ghost use Rattle.immutable_trees.specs.Branches.{IsTakenBelow, IsThere};
+ghost use Rattle.immutable_trees.specs.Branches.{IsTakenBelow};
 ghost use Rattle.immutable_trees.specs.Removals.{FindsEntry};
 ghost use Rattle.immutable_trees.specs.RemovedRows.{HasOwn, uprooted};
 
