@@ -66,7 +66,7 @@ module _ {K : Type 0} (told : K → Option Told) (before after : RowCore K) (law
               (laws.size whole pass now op plan.0) (laws.files whole pass now op s.well (no_bytes op carried) (no_trees op carried) plan.0);
         };
         tells = subst (λ b. IsToldAfter (not (keeps_rows whole pass op)) b (names_drawn whole op) (told before.keeper) (told after.keeper)) (sym (writes_nothing op carried))
-            (told_after batch (keeps_rows whole pass op) (names_drawn whole op) (told before.keeper) (told after.keeper) s.now (effect whole pass op now) plan.3 is s.tells plan.2);
+            (told_after batch (keeps_rows whole pass op) (names_drawn whole op) (told before.keeper) (told after.keeper) s.now (effect whole pass op now) s.served.valid.ordered.inode_blocks plan.3 is s.tells plan.2);
         unworn = λ worn. plan.5 (told_fact (told before.keeper) s.now (λ t. IsWorn t whole op) s.tells worn);
       }
 

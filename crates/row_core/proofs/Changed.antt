@@ -41,7 +41,7 @@ use Rattle.file_ops.specs.FileChanges.{GetsBytes, HoldsBytes, IsFileAt, IsFileSt
 use Rattle.file_ops.specs.Placed.{ArePrepared}
 use Rattle.row_core.specs.declared.row_core.RowCore.{RowCore}
 use Rattle.row_core.specs.Backed.{AreBackedAfter, GoesOnBacked, IsBacked, StaysStored}
-use Rattle.row_core.specs.Standing.{IsMounted, StandsFor, IsFileTold}
+use Rattle.row_core.specs.Standing.{AreFewTold, IsMounted, StandsFor, IsFileTold}
 use Rattle.row_core.proofs.ChangedNodes.{changed_file, handles_kept, next_handle_kept, other_file, own_file, size_kept}
 use Rattle.row_core.proofs.LawsUsed.{ChangeLaws, DrawnLaws}
 use Rattle.row_core.proofs.Occurring.{knows_changed}
@@ -162,8 +162,8 @@ module _ {K : Type 0} (told : K → Option Told) (before after : RowCore K) (who
       );
     }
 
-    pub is_told : IsFileTold (told before.keeper) (told after.keeper)
-    is_told = (middle, batch, prepared, committed, fact_told middle between.0 (λ x. (own : Inode) × KeepsNames (after_change (changes.PutInode own) x) (tables_after batch x)) between.1 (new, step.names))
+    pub is_told : AreFewTold (told before.keeper) (told after.keeper) → IsFileTold (told before.keeper) (told after.keeper)
+    is_told few = (middle, batch, prepared, committed, fact_told middle between.0 (λ x. (own : Inode) × KeepsNames (after_change (changes.PutInode own) x) (tables_after batch x)) between.1 (new, step.names), few)
 
     pub reply_is : r.refcount < 2 ^ 62 → attr_reply next r.id ≡ replies.Attr (attr_of_row new)
     reply_is few = attr_is then next r.id new step.valid then_represents (ap (λ (rows : List Inode). inode_at (record then { inodes = rows }) r.id) step.names.inodes ∙ row_at-put_same by_inode nat_cmp_total new drawn.inodes) few

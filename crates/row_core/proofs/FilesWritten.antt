@@ -36,7 +36,7 @@ use Rattle.ref_counts.specs.Plans.{IsWorn}
 use Rattle.row_core.specs.declared.row_core.RowCore.{RowCore}
 use Rattle.row_core.specs.Causes.{AreWornBlocks, LacksBlocks, file_used, length_of_file, needed_by}
 use Rattle.row_core.specs.Refusals.{IsDone, Stands}
-use Rattle.row_core.specs.Standing.{StandsFor, IsToldAfter}
+use Rattle.row_core.specs.Standing.{AreFewTold, StandsFor, IsToldAfter}
 use Rattle.row_core.proofs.ChangedNodes.{changed_file, length-resized, length-written}
 use Rattle.row_core.proofs.FileDone.{drawn_tables, ends_at, file_reply, file_stays, file_told, next_tree, positive_length}
 use Rattle.row_core.proofs.FileOutcomes.{length_is, same_loss}
@@ -85,7 +85,7 @@ module _ {K : Type 0} (told : K → Option Told) (before after : RowCore K) (dig
         (held : IfTold middle (λ t. IsFileAt t r block_size → Becomes (λ o now. AreHeld digest_of (objects_in o) t.blocks → AreHeld digest_of (objects_in now) (tables_after batch t).blocks) objects later))
         (gets : IfBothTold (told before.keeper) objects (λ t o. IfTold middle (λ x. GetsBytes digest_of t o x (tables_after batch x) r block_size (written_at offset bytes) (written t block_size))))
         (bytes_held : IfBothTold (told before.keeper) objects (λ t o. IfTold middle (λ x. HoldsBytes digest_of t o x (tables_after batch x) later r block_size (written_at offset bytes) (written t block_size))))
-        (passes : first_failure (checks whole pass write) ≡ None) where
+        (passes : first_failure (checks whole pass write) ≡ None) (few : AreFewTold (told before.keeper) (told after.keeper)) where
       abbrev after_write : Tree
       after_write = next_tree told before after digest_of objects later whole s drawn_laws laws r size now block_size (written_at offset bytes) written there regular written_long middle batch prepared same_size stepped held gets bytes_held tells committed handles
 
@@ -114,7 +114,7 @@ module _ {K : Type 0} (told : K → Option Told) (before after : RowCore K) (dig
             (ends_at told before after digest_of objects later whole s drawn_laws laws r size now block_size (written_at offset bytes) written there regular written_long middle batch prepared same_size stepped held gets bytes_held tells committed handles old long)
             (subst (λ k. IsFileChanged digest_of t then_written whole after_write r.id (written_at offset bytes old) (blocks_of_write whole.block_size offset (length bytes) k (stored_length t r.id))) (sym long) changed) exact));
         tells = subst (λ b. IsToldAfter (not b) true 0 (told before.keeper) (told after.keeper)) (sym some)
-            (file_told told before after digest_of objects later whole s drawn_laws laws r size now block_size (written_at offset bytes) written there regular written_long middle batch prepared same_size stepped held gets bytes_held tells committed handles);
+            (file_told told before after digest_of objects later whole s drawn_laws laws r size now block_size (written_at offset bytes) written there regular written_long middle batch prepared same_size stepped held gets bytes_held tells committed handles few);
         unworn = told_fact (told before.keeper) s.now (λ t. IsWorn t whole write) s.tells;
       }
 
@@ -134,7 +134,7 @@ module _ {K : Type 0} (told : K → Option Told) (before after : RowCore K) (dig
         (held : IfTold middle (λ t. IsFileAt t r block_size → Becomes (λ o now. AreHeld digest_of (objects_in o) t.blocks → AreHeld digest_of (objects_in now) (tables_after batch t).blocks) objects later))
         (gets : IfBothTold (told before.keeper) objects (λ t o. IfTold middle (λ x. GetsBytes digest_of t o x (tables_after batch x) r block_size (resized len) (cut t block_size))))
         (bytes_held : IfBothTold (told before.keeper) objects (λ t o. IfTold middle (λ x. HoldsBytes digest_of t o x (tables_after batch x) later r block_size (resized len) (cut t block_size))))
-        (passes : first_failure (checks whole pass truncate) ≡ None) where
+        (passes : first_failure (checks whole pass truncate) ≡ None) (few : AreFewTold (told before.keeper) (told after.keeper)) where
       abbrev after_truncate : Tree
       after_truncate = next_tree told before after digest_of objects later whole s drawn_laws laws r len now block_size (resized len) cut there regular resized_long middle batch prepared same_size stepped held gets bytes_held tells committed handles
 
@@ -150,8 +150,8 @@ module _ {K : Type 0} (told : K → Option Told) (before after : RowCore K) (dig
           ∙ file_reply told before after digest_of objects later whole s drawn_laws laws r len now block_size (resized len) cut there regular resized_long middle batch prepared same_size stepped held gets bytes_held tells committed handles few
 
       pub truncated_done : (attr : Attr) → r.refcount < 2 ^ 62 → attr ≡ attr_of_row (with_length len now r) → IsDone told before after digest_of objects later whole pass truncate now (replies.Attr attr)
-      truncated_done attr few is =
-          let same : replies.Attr attr ≡ success whole pass truncate now = ap replies.Attr is ∙ sym (reply few) in record {
+      truncated_done attr low is =
+          let same : replies.Attr attr ≡ success whole pass truncate now = ap replies.Attr is ∙ sym (reply low) in record {
             passes = passes;
             like = same;
             stays = subst (λ x. Stands told before after digest_of objects later whole (replies.Attr attr ≡ success whole pass truncate now) x) (sym truncate_effect)
@@ -166,7 +166,7 @@ module _ {K : Type 0} (told : K → Option Told) (before after : RowCore K) (dig
                 laws.exact_resized digest_of t then_cut whole after_truncate r.id len old file sized
                 (ends_at told before after digest_of objects later whole s drawn_laws laws r len now block_size (resized len) cut there regular resized_long middle batch prepared same_size stepped held gets bytes_held tells committed handles old long)
                 (subst (λ k. IsFileChanged digest_of t then_cut whole after_truncate r.id (resized len old) (blocks_of_resize whole.block_size len k (stored_length t r.id))) (sym long) changed) exact));
-            tells = file_told told before after digest_of objects later whole s drawn_laws laws r len now block_size (resized len) cut there regular resized_long middle batch prepared same_size stepped held gets bytes_held tells committed handles;
+            tells = file_told told before after digest_of objects later whole s drawn_laws laws r len now block_size (resized len) cut there regular resized_long middle batch prepared same_size stepped held gets bytes_held tells committed handles few;
             unworn = told_fact (told before.keeper) s.now (λ t. IsWorn t whole truncate) s.tells;
           }
 

@@ -14,3 +14,4 @@ mod Occurring
 mod Opened
 mod Standing
 mod Successes
+mod FewerRows

@@ -1,11 +1,12 @@
 -- A core that stands for a tree, from call to call.
 use Rattle.std.proofs.Common.{◌≡◌, ℕ, zero, suc, List, [], ◌∷◌, length, Bool, true, false, not, Option, None, Some, refl, sym, ap, ◌∙◌, subst, inl, arith, eqb-true}
-use Rattle.std.specs.Prelude.{◌==◌, option_map, Result, Ok, Err, IsErrAnd}
+use Rattle.std.specs.Prelude.{IsTrue, ◌==◌, option_map, Result, Ok, Err, IsErrAnd}
 use Rattle.s3_rows.specs.declared.change.Change.{Change}
 use Rattle.s3_rows.specs.declared.params.State.{State}
 use Rattle.s3_rows.specs.Rows.{Parameters}
 use Rattle.s3_rows.specs.Stores.{AreHeld}
-use Rattle.s3_rows.specs.Tables.{Tables}
+use Rattle.s3_rows.specs.Keyed.{rises}
+use Rattle.s3_rows.specs.Tables.{Tables, by_spot}
 use Rattle.s3_rows.specs.Batches.{tables_after}
 use Rattle.s3_rows.specs.Told.{Told, IfTold, with_batch}
 use Rattle.s3_devices.specs.Keys.{objects_in}
@@ -24,10 +25,11 @@ use Rattle.ref_counts.specs.Handles.{HasHandles}
 use Rattle.ref_counts.specs.Plans.{IsStep, LeavesRest, IsSmall, settings}
 use Rattle.row_core.specs.declared.row_core.RowCore.{RowCore}
 use Rattle.row_core.specs.Backed.{AreBackedAfter, GoesOnBacked, IsBacked, StaysStored}
-use Rattle.file_ops.specs.FileChanges.{KeepsObjectsOf}
+use Rattle.file_ops.specs.FileChanges.{AreFew, KeepsObjectsOf}
 use Rattle.row_core.specs.Causes.{writes_blocks}
-use Rattle.row_core.specs.Standing.{AreServed, IsMounted, StandsFor, IsCommitted, IsToldAfter, IsToldAlike}
+use Rattle.row_core.specs.Standing.{AreFewTold, AreServed, IsMounted, StandsFor, IsCommitted, IsToldAfter, IsToldAlike}
 use Rattle.row_core.specs.Refusals.{IsAlike, IsOutcome, IsStill, Stands}
+use Rattle.row_core.proofs.FewerRows.{few_of_rest}
 use Rattle.row_core.proofs.LawsUsed.{DrawnLaws, HeldLaws, NameLaws}
 use Rattle.op_frames.specs.declared.operation.Op.{Op}
 use Rattle.op_frames.specs.declared.reply.Reply.{Reply}
@@ -107,19 +109,26 @@ module _ {K : Type 0} (told : K → Option Told) (before after : RowCore K) (dig
       pub is_still : IsStill told before after digest_of objects objects whole
       is_still = record { stays = stands_still; same = same }
 
-told_alike : (b : Bool) (x y : Option Told) → ((s t : Told) → s ≡ t → ArePrepared s t) → y ≡ x → IsToldAlike b x y
-told_alike false x y itself same = same
-told_alike true None y itself same = same
-told_alike true (Some s) y itself same = subst (λ z. Becomes ArePrepared (Some s) z) (sym same) (itself s s refl)
+few_itself : (x : Option Told) → AreFewTold x x
+few_itself None = tt
+few_itself (Some s) = record { blocks = omega arith; objects = omega arith; places = omega arith }
 
-itself_prepared : (s t : Told) → s ≡ t → ArePrepared s t
-itself_prepared s t same = ((0, ap (λ (x : Told). x.tables) (sym same)), inl (ap (λ (x : Told). x.commits) (sym same)))
+itself_prepared : (s : Told) → ArePrepared s s
+itself_prepared s = ((0, refl), inl refl)
+
+prepared_itself : (x : Option Told) → Becomes ArePrepared x x
+prepared_itself None = refl
+prepared_itself (Some s) = itself_prepared s
+
+told_alike : (b : Bool) (x y : Option Told) → y ≡ x → IsToldAlike b x y
+told_alike false x y same = same
+told_alike true x y same = subst (λ z. Becomes ArePrepared x z × AreFewTold x z) (sym same) (prepared_itself x, few_itself x)
 
 -- nothing more is told, and so no objects were drawn
 pub still_alike : {K : Type 0} (told : K → Option Told) (before after : RowCore K) (digest_of : List ℕ → List ℕ) (objects later : Option Objects) (whole : Tree) (op : Op)
     → IsStill told before after digest_of objects later whole → IsAlike told before after digest_of objects later whole op
 still_alike told before after digest_of objects later whole op still =
-    record { stays = still.stays; alike = told_alike (writes_blocks op) (told before.keeper) (told after.keeper) itself_prepared still.same }
+    record { stays = still.stays; alike = told_alike (writes_blocks op) (told before.keeper) (told after.keeper) still.same }
 
 -- ---- objects that were drawn
 
@@ -196,10 +205,10 @@ module _ {K : Type 0} (told : K → Option Told) (before after : RowCore K) (who
           })),
         )
 
-    pub is_alike : after.handles ≡ before.handles → (op : Op) → writes_blocks op ≡ true → IsAlike told before after digest_of objects after_objects whole op
-    is_alike handles op writes = record {
+    pub is_alike : after.handles ≡ before.handles → AreFewTold (told before.keeper) (told after.keeper) → (op : Op) → writes_blocks op ≡ true → IsAlike told before after digest_of objects after_objects whole op
+    is_alike handles few op writes = record {
       stays = record { stands = drawn_stands handles; stored = drawn_stored; backed = drawn_backed };
-      alike = subst (λ b. IsToldAlike b (told before.keeper) (told after.keeper)) (sym writes) prepared;
+      alike = subst (λ b. IsToldAlike b (told before.keeper) (told after.keeper)) (sym writes) (prepared, few);
     }
 
 -- ---- after a batch of rows
@@ -272,16 +281,23 @@ module _ {K : Type 0} (told : K → Option Told) (before after : RowCore K) (who
           }),
         )
 
+few_committed : (batch : List Change) (before after : Option Told) (s : Told) (next : Tree) (drawn : ℕ) → after ≡ option_map (with_batch batch) before → before ≡ Some s → IsTrue (rises by_spot s.tables.inode_blocks)
+    → IsStep s.tables (tables_after batch s.tables) next drawn → AreFewTold before after
+few_committed batch before after s next drawn committed tells ordered step =
+    fact_told before s (λ t. IfTold after (λ u. AreFew 34 t u)) tells
+    (fact_told after (with_batch batch s) (λ u. AreFew 34 s.tables u) (committed ∙ ap (option_map (with_batch batch)) tells)
+    (few_of_rest s.tables (tables_after batch s.tables) step.valid ordered step.rest))
+
 -- a batch is told where it has a change
-pub told_after : (batch : List Change) (keeps : Bool) (drawn : ℕ) (before after : Option Told) (s : Told) (next : Tree) → (length batch == 0) ≡ keeps → IsCommitted batch before after → before ≡ Some s
+pub told_after : (batch : List Change) (keeps : Bool) (drawn : ℕ) (before after : Option Told) (s : Told) (next : Tree) → IsTrue (rises by_spot s.tables.inode_blocks) → (length batch == 0) ≡ keeps → IsCommitted batch before after → before ≡ Some s
     → IsStep s.tables (tables_after batch s.tables) next drawn → IsToldAfter (not keeps) false drawn before after
-told_after [] true drawn before after s next empty committed tells step = committed
-told_after [] false drawn before after s next empty committed tells step =
+told_after [] true drawn before after s next ordered empty committed tells step = committed
+told_after [] false drawn before after s next ordered empty committed tells step =
     let clash : true ≡ false = empty in
     absurd (cc clash)
-told_after (c ∷ cs) true drawn before after s next empty committed tells step = absurd (omega (arith, eqb-true (length (c ∷ cs)) 0 empty))
-told_after (c ∷ cs) false drawn before after s next empty committed tells step =
-    (c ∷ cs, committed, fact_told before s (λ t. LeavesRest t (tables_after (c ∷ cs) t) × IsSmall drawn t (tables_after (c ∷ cs) t)) tells (step.rest, step.small))
+told_after (c ∷ cs) true drawn before after s next ordered empty committed tells step = absurd (omega (arith, eqb-true (length (c ∷ cs)) 0 empty))
+told_after (c ∷ cs) false drawn before after s next ordered empty committed tells step =
+    (c ∷ cs, committed, fact_told before s (λ t. LeavesRest t (tables_after (c ∷ cs) t) × IsSmall drawn t (tables_after (c ∷ cs) t)) tells (step.rest, step.small), few_committed (c ∷ cs) before after s next drawn committed tells ordered step)
 
 -- ---- answers
 

@@ -13,6 +13,7 @@ use Rattle.s3_rows.specs.Validity.{IsValid, HasUniqueNames}
 use Rattle.s3_devices.specs.Told.{Becomes}
 use Rattle.tree_rows.specs.Shapes.{Represents}
 use Rattle.block_steps.specs.Owed.{KeepsNames}
+use Rattle.file_ops.specs.FileChanges.{AreFew}
 use Rattle.file_ops.specs.Placed.{ArePrepared}
 use Rattle.ref_counts.specs.Handles.{HasHandles}
 use Rattle.ref_counts.specs.Plans.{LeavesRest, IsSmall}
@@ -42,16 +43,21 @@ abbrev pub IsCommitted : List Change → Option Told → Option Told → Type 0
 IsCommitted [] before after = after ≡ before
 IsCommitted (c ∷ cs) before after = after ≡ option_map (with_batch (c ∷ cs)) before
 
+-- At most 34 blocks and objects were drawn, and as many places came: a Write has at most 131,072 bytes, and a block at least 4,096.
+abbrev pub AreFewTold : Option Told → Option Told → Type 0
+AreFewTold before after = IfTold before (λ t. IfTold after (λ u. AreFew 34 t u))
+
 -- One batch more. It leaves alone what the operation does not speak of, and draws no more names than it needs.
 abbrev pub AreRowsTold : ℕ → Option Told → Option Told → Type 0
 AreRowsTold drawn before after =
     (batch : List Change) × (after ≡ option_map (with_batch batch) before) × IfTold before (λ t. LeavesRest t (tables_after batch t) × IsSmall drawn t (tables_after batch t))
+    × AreFewTold before after
 
 -- Objects may have been drawn, by one batch, and one batch more changes the row of one inode, places, blocks and objects alone.
 abbrev pub IsFileTold : Option Told → Option Told → Type 0
 IsFileTold before after =
     (middle : Option Told) × (batch : List Change) × Becomes ArePrepared before middle × (after ≡ option_map (with_batch batch) middle)
-    × IfTold middle (λ t. (new : Inode) × KeepsNames (after_change (changes.PutInode new) t) (tables_after batch t))
+    × IfTold middle (λ t. (new : Inode) × KeepsNames (after_change (changes.PutInode new) t) (tables_after batch t)) × AreFewTold before after
 
 -- what is told after a call that changes rows, or none; of names and inodes, or of the bytes of a file
 abbrev pub IsToldAfter : Bool → Bool → ℕ → Option Told → Option Told → Type 0
@@ -62,4 +68,4 @@ IsToldAfter true true drawn before after = IsFileTold before after
 -- what is told after a call that changed nothing of the tree: where it was to write blocks, objects may have been drawn for them
 abbrev pub IsToldAlike : Bool → Option Told → Option Told → Type 0
 IsToldAlike false before after = after ≡ before
-IsToldAlike true before after = Becomes ArePrepared before after
+IsToldAlike true before after = Becomes ArePrepared before after × AreFewTold before after

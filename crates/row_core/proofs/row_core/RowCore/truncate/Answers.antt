@@ -1,4 +1,4 @@
-use Rattle.std.proofs.Common.{◌≡◌, ◌<◌, ◌^◌, ℕ, List, [], ◌∷◌, true, Option, Some, refl, ap, ◌∙◌, subst}
+use Rattle.std.proofs.Common.{◌≡◌, ◌<◌, ◌^◌, ℕ, List, [], ◌∷◌, true, Option, Some, refl, ap, ◌∙◌, subst, arith}
 use Rattle.std.specs.Prelude.{nat_lt, if◌then◌else◌}
 use Rattle.sha2.specs.Sha256.{sha256}
 use Rattle.op_frames.specs.declared.operation.Op.{Op}
@@ -19,14 +19,15 @@ use Rattle.core_model.specs.Changes.{blocks_of_resize}
 use Rattle.byte_steps.specs.Changed.{stored_length}
 use Rattle.file_ops.specs.declared.file_fault.FileFault.{FileFault}
 use Rattle.file_ops.specs.FileBytes.{IfBothTold, stored_in}
-use Rattle.file_ops.specs.FileChanges.{AreWorn, GetsBytes, HoldsBytes, IsFileAt, IsFileStep, with_length}
+use Rattle.file_ops.specs.FileChanges.{AreFew, AreWorn, GetsBytes, HoldsBytes, IsFileAt, IsFileStep, with_length}
 use Rattle.file_ops.specs.FileFaults.{IsLossAmong}
 use Rattle.tree_rows.specs.Attrs.{attr_of_row}
 use Rattle.row_core.specs.declared.refusal.Refusal.TheVariants.{Refused}
 use Rattle.row_core.specs.declared.row_core.RowCore.{RowCore}
 use Rattle.row_core.specs.Refusals.{refusal_of}
+use Rattle.row_core.specs.Standing.{AreFewTold}
 use Rattle.row_core.specs.Rows.{IsCheckedRow, file_checks}
-use Rattle.row_core.proofs.FileCalls.{drawn_from, only_drawn, still_tells}
+use Rattle.row_core.proofs.FileCalls.{drawn_from, drawn_ordered, few_after, few_more, few_ordered, only_drawn, still_tells}
 use Rattle.row_core.proofs.FileChecks.{number, truncate_absent, truncate_passes, truncate_regular, truncate_there, truncate_too_long}
 use Rattle.row_core.proofs.FileOutcomes.{fault_outcome, row_refusal, size_known}
 use Rattle.row_core.proofs.FilesWritten.{truncate_loss, truncate_worn, truncated_done}
@@ -90,7 +91,7 @@ returns-in_err-batch-clause-outcome g c whole pass s =
     (λ is. truncate_worn told before sha256 objects whole s r n pass c.args.now size c.args.inode c.args.size own there file.0 file.1 file.2
     (subst (λ x. IfTold x (λ t. AreWorn sha256 t objects r n (resized c.args.size) (blocks_of_resize n c.args.size r.size (stored_in t r.id)) (if nat_lt c.args.size r.size then [] else changes.PutInode (with_length c.args.size c.args.now r) ∷ []))) same_k
     (c.in_err-batch.ensures.worn is)))
-    (only_drawn told before after sha256 objects later whole s (told c.file_row.new.keeper) c.in_ok-row.ensures.same c.in_ok-block_size.ensures.ranges k (told after.keeper) same_k drawn held c.in_err-batch.ensures.prepared c.in_err-batch.ensures.kept refl refl op refl))
+    (only_drawn told before after sha256 objects later whole s (told c.file_row.new.keeper) c.in_ok-row.ensures.same c.in_ok-block_size.ensures.ranges k (told after.keeper) same_k drawn held c.in_err-batch.ensures.prepared c.in_err-batch.ensures.kept (few_more k (told after.keeper) 2 (omega arith) c.in_err-batch.ensures.drawn) refl refl op refl))
 
 pub returns-in_err-commit-clause-outcome : goal.returns-in_err-commit-clause-outcome
 returns-in_err-commit-clause-outcome g c whole pass s =
@@ -109,7 +110,7 @@ returns-in_err-commit-clause-outcome g c whole pass s =
     let held : HeldLaws = record { held = h.others; stored = h.stored_others } in
     as_refused told before after sha256 objects later whole pass op c.args.now c.from_residual-in_err-commit.result _ c.from_residual-in_err-commit.ensures.1
     (faulty told before after sha256 objects later whole pass op c.args.now c.in_err-commit.field-0.0
-    (only_drawn told before after sha256 objects later whole s (told c.file_row.new.keeper) c.in_ok-row.ensures.same c.in_ok-block_size.ensures.ranges k (told c.resize_file.new.keeper) same_k drawn held c.in_ok-batch.ensures.prepared c.in_ok-batch.ensures.kept c.in_err-commit.ensures.err refl op refl))
+    (only_drawn told before after sha256 objects later whole s (told c.file_row.new.keeper) c.in_ok-row.ensures.same c.in_ok-block_size.ensures.ranges k (told c.resize_file.new.keeper) same_k drawn held c.in_ok-batch.ensures.prepared c.in_ok-batch.ensures.kept (few_more k (told c.resize_file.new.keeper) 2 (omega arith) c.in_ok-batch.ensures.drawn) c.in_err-commit.ensures.err refl op refl))
 
 pub returns-clause-outcome : goal.returns-clause-outcome
 returns-clause-outcome g c whole pass s =
@@ -145,5 +146,7 @@ returns-clause-outcome g c whole pass s =
     (drawn_from told before after sha256 objects later whole s (told c.file_row.new.keeper) c.in_ok-row.ensures.same c.in_ok-block_size.ensures.ranges k m same_k c.in_ok-batch.ensures.prepared) size c.in_ok-block_size.ensures.least
     (still_tells told before after sha256 objects later whole s (told c.file_row.new.keeper) c.in_ok-row.ensures.same c.in_ok-block_size.ensures.ranges k m same_k c.in_ok-batch.ensures.kept) c.in_ok-commit.ensures.ok refl
     pass c.args.inode len own stepped held gets bytes_held (truncate_passes told before whole s pass c.args.inode len r c.in_ok-row.ensures.row c.in_ok-check_size.ensures)
+    (subst (λ x. AreFewTold x (told after.keeper)) same_k (few_after k m (told after.keeper) batch 2 (omega arith) c.in_ok-commit.ensures.ok
+    (few_ordered k m batch 2 (drawn_ordered told before after sha256 objects later whole s (told c.file_row.new.keeper) c.in_ok-row.ensures.same c.in_ok-block_size.ensures.ranges k m same_k drawn c.in_ok-batch.ensures.prepared) c.in_ok-batch.ensures.few)))
     c.attr_of.result (subst (λ (x : Inode). x.refcount < 2 ^ 62) c.row.view_is c.row.invariant.refcount)
     (c.attr_of.ensures.attr ∙ ap (λ (x : Inode). attr_of_row (with_length len c.args.now x)) c.row.view_is)

@@ -12,19 +12,21 @@ use Rattle.s3_rows.specs.Told.{IfTold, Told}
 use Rattle.s3_devices.specs.Keys.{objects_in}
 use Rattle.s3_devices.specs.Objects.{Objects}
 use Rattle.s3_devices.specs.Told.{Becomes}
+use Rattle.block_math.specs.Ranges.{piece_count}
 use Rattle.core_model.specs.Changes.{blocks_of_write, needed_by_write}
 use Rattle.byte_steps.specs.Changed.{stored_length}
 use Rattle.file_ops.specs.declared.file_fault.FileFault.{FileFault}
 use Rattle.file_ops.specs.FileBytes.{IfBothTold, stored_in}
-use Rattle.file_ops.specs.FileChanges.{AreWorn, GetsBytes, HoldsBytes, IsFileAt, IsFileStep, with_length}
+use Rattle.file_ops.specs.FileChanges.{AreFew, AreWorn, GetsBytes, HoldsBytes, IsFileAt, IsFileStep, with_length}
 use Rattle.file_ops.specs.FileFaults.{IsLossAmong}
 use Rattle.op_checks.specs.Rows.{open_row_check}
 use Rattle.ref_counts.specs.Handles.{inode_open}
 use Rattle.row_core.specs.declared.refusal.Refusal.TheVariants.{Refused, Worn}
 use Rattle.row_core.specs.declared.row_core.RowCore.{RowCore}
 use Rattle.row_core.specs.Refusals.{refusal_of}
+use Rattle.row_core.specs.Standing.{AreFewTold}
 use Rattle.row_core.specs.Rows.{IsCheckedRow, row_of}
-use Rattle.row_core.proofs.FileCalls.{drawn_from, only_drawn, still_tells}
+use Rattle.row_core.proofs.FileCalls.{drawn_from, few_after, few_more, few_write, only_drawn, still_tells}
 use Rattle.row_core.proofs.FileChecks.{file_open, open_regular, write_closed, write_locked, write_passes, write_too_far}
 use Rattle.row_core.proofs.FileOutcomes.{fault_outcome, row_refusal, size_known, size_refusal}
 use Rattle.row_core.proofs.FilesWritten.{nothing_written, write_loss, write_worn, written_done}
@@ -126,7 +128,8 @@ returns-in_err-batch-clause-outcome g c whole s =
     (subst (λ (bs : List ℕ). IfTold k (λ t. AreWorn sha256 t objects r n (written_at c.args.offset bs) (blocks_of_write n c.args.offset (length bs) r.size (stored_in t r.id))
     (changes.PutInode (with_length (max r.size (c.args.offset + length bs)) c.args.now r) ∷ []))) c.as_slice.ensures
     (c.in_err-batch.ensures.worn is))))
-    (only_drawn told before after sha256 objects later whole s (told c.open_row.new.keeper) c.in_ok-row.ensures.same c.in_ok-block_size.ensures.ranges k (told after.keeper) same_k drawn held c.in_err-batch.ensures.prepared c.in_err-batch.ensures.kept refl refl op refl))
+    (only_drawn told before after sha256 objects later whole s (told c.open_row.new.keeper) c.in_ok-row.ensures.same c.in_ok-block_size.ensures.ranges k (told after.keeper) same_k drawn held c.in_err-batch.ensures.prepared c.in_err-batch.ensures.kept (few_more k (told after.keeper) (piece_count c.args.offset (length c.args.bytes.now) n + 1) (few_write (length c.args.bytes.now) c.args.offset n c.in_ok-block_size.ensures.least c.requires.short)
+    (subst (λ (bs : List ℕ). IfTold k (λ t. IfTold (told after.keeper) (λ u. AreFew (piece_count c.args.offset (length bs) n + 1) t u))) c.as_slice.ensures c.in_err-batch.ensures.drawn)) refl refl op refl))
 
 pub returns-in_err-commit-clause-outcome : goal.returns-in_err-commit-clause-outcome
 returns-in_err-commit-clause-outcome g c whole s =
@@ -138,6 +141,7 @@ returns-in_err-commit-clause-outcome g c whole s =
     let op : Op = ops.Write c.args.handle c.args.offset c.args.bytes.now in
     let k : Option Told = told c.block_size_of.new.keeper in
     let same_k : k ≡ told before.keeper = c.in_ok-block_size.ensures.same ∙ c.in_ok-row.ensures.same in
+    let n : ℕ = c.in_ok-block_size.block_size in
     let v = c.prepared_tables_stay_valid.ensures in
     let b = c.prepared_tables_keep_bytes.ensures in
     let h = c.held_blocks_rest_on_their_objects.ensures in
@@ -145,7 +149,8 @@ returns-in_err-commit-clause-outcome g c whole s =
     let held : HeldLaws = record { held = h.others; stored = h.stored_others } in
     as_refused told before after sha256 objects later whole c.args.pass op c.args.now c.from_residual-in_err-commit.result _ c.from_residual-in_err-commit.ensures.1
     (faulty told before after sha256 objects later whole c.args.pass op c.args.now c.in_err-commit.field-0.0
-    (only_drawn told before after sha256 objects later whole s (told c.open_row.new.keeper) c.in_ok-row.ensures.same c.in_ok-block_size.ensures.ranges k (told c.write_file.new.keeper) same_k drawn held c.in_ok-batch.ensures.prepared c.in_ok-batch.ensures.kept c.in_err-commit.ensures.err refl op refl))
+    (only_drawn told before after sha256 objects later whole s (told c.open_row.new.keeper) c.in_ok-row.ensures.same c.in_ok-block_size.ensures.ranges k (told c.write_file.new.keeper) same_k drawn held c.in_ok-batch.ensures.prepared c.in_ok-batch.ensures.kept (few_more k (told c.write_file.new.keeper) (piece_count c.args.offset (length c.args.bytes.now) n + 1) (few_write (length c.args.bytes.now) c.args.offset n c.in_ok-block_size.ensures.least c.requires.short)
+    (subst (λ (bs : List ℕ). IfTold k (λ t. IfTold (told c.write_file.new.keeper) (λ u. AreFew (piece_count c.args.offset (length bs) n + 1) t u))) c.as_slice.ensures c.in_ok-batch.ensures.drawn)) c.in_err-commit.ensures.err refl op refl))
 
 pub returns-clause-outcome : goal.returns-clause-outcome
 returns-clause-outcome g c whole s =
@@ -184,4 +189,6 @@ returns-clause-outcome g c whole s =
     (still_tells told before after sha256 objects later whole s (told c.open_row.new.keeper) c.in_ok-row.ensures.same c.in_ok-block_size.ensures.ranges k m same_k c.in_ok-batch.ensures.kept) c.in_ok-commit.ensures.ok refl
     c.args.pass c.args.handle off bytes o (sym c.is_empty.ensures ∙ c.if-is_empty.false) stepped held gets bytes_held
     (write_passes told before whole s c.args.pass c.args.handle off bytes r c.in_ok-row.ensures.row c.in_ok-check_unlocked.ensures c.in_ok-check_write_end.ensures)
+    (subst (λ x. AreFewTold x (told after.keeper)) same_k (few_after k m (told after.keeper) batch (piece_count off (length bytes) n + 1) (few_write (length bytes) off n c.in_ok-block_size.ensures.least c.requires.short) c.in_ok-commit.ensures.ok
+    (subst (λ (bs : List ℕ). IfTold k (λ t. IfTold m (λ u. AreFew (piece_count off (length bs) n + 1) t (tables_after batch u)))) c.as_slice.ensures c.in_ok-batch.ensures.few)))
     c.len.result c.len.ensures
