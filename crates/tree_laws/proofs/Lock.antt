@@ -2,4 +2,5 @@
 mod Entry
 pub mod Node
 pub mod Refusal
+pub mod Run
 pub mod Tree

@@ -6,6 +6,7 @@ use Rattle.op_frames.specs.declared.operation.Op.TheVariants as ops
 use Rattle.op_frames.specs.declared.reply.Reply.{Reply}
 use Rattle.op_frames.specs.declared.reply.Reply.TheVariants as replies
 use Rattle.plain_tree.specs.Below.{is_at_or_below}
+use Rattle.plain_tree.specs.Calls.{Answered, leaves_tree, tree_after_reply}
 use Rattle.plain_tree.specs.Entries.{entry_at}
 use Rattle.plain_tree.specs.Operations.{reply_to, tree_after}
 use Rattle.plain_tree.specs.Tree.{Node, Tree, node_at, stamped}
@@ -32,6 +33,11 @@ SparesTree t inode op reply = Unit {0}
 abbrev pub AllSpareTree : Tree → ℕ → List Request → Type 0
 AllSpareTree t inode [] = Unit {0}
 AllSpareTree t inode (call ∷ calls) = SparesTree t inode call.op (reply_to t call.pass call.op call.now) × AllSpareTree (tree_after t call.pass call.op call.now) inode calls
+
+-- each of the answered calls, where its reply does not leave the tree, spares the directory in the tree that it finds
+abbrev pub RunSparesTree : Tree → ℕ → List Answered → Type 0
+RunSparesTree t inode [] = Unit {0}
+RunSparesTree t inode (a ∷ run) = (leaves_tree a.reply ≡ false → SparesTree t inode a.call.op replies.Done) × RunSparesTree (tree_after_reply t a) inode run
 
 -- the entry names the inode, whose node is as it was but for ctime
 pub record IsAsBefore (parent : ℕ) (name : List ℕ) (inode : ℕ) (node : Node) (after : Tree) : Type 0 where

@@ -23,7 +23,10 @@ pub use directories::{
 pub use entries::{entries_name_nodes, names_stay_legal, renamed_to_itself_is_as_before};
 pub use files::{truncated_is_cut, unwritten_files_keep_their_bytes, written_is_read};
 pub use limits::limits_stay;
-pub use locks::{locked_entries_stay, locked_nodes_refuse, locked_nodes_stay, locked_trees_stay};
+pub use locks::{
+    locked_entries_stay, locked_nodes_refuse, locked_nodes_stay, locked_trees_stay,
+    locked_trees_stay_along_runs,
+};
 pub use names::names_stay_in_order;
 pub use numbers::nodes_stay_in_order;
 pub use removals::{reached_removal_removes_what_it_names, removal_removes_what_it_names};

@@ -7,10 +7,11 @@ ghost use Rattle.s3_base.specs.declared.errors.Errno.{Errno};
 ghost use Rattle.plain_tree.specs.Tree.{Node, Tree, made_tree, node_at};
 ghost use Rattle.plain_tree.specs.Entries.{entry_at};
 ghost use Rattle.plain_tree.specs.Operations.{reply_to, tree_after};
-ghost use Rattle.plain_tree.specs.Calls.{tree_after_all};
+ghost use Rattle.plain_tree.specs.Calls.{Answered, tree_after_all, tree_at_end};
 ghost use Rattle.tree_laws.specs.Locks.{WouldChange, IsKept};
-ghost use Rattle.tree_laws.specs.LockedTrees.{AllSpare, AllSpareTree, IsAsBefore, StaysLocked};
+ghost use Rattle.tree_laws.specs.LockedTrees.{AllSpare, AllSpareTree, IsAsBefore, RunSparesTree, StaysLocked};
 ghost use Rattle.plain_tree.specs.Numbers.{InOrder};
+ghost use Rattle.plain_tree.specs.WellFormed.{IsWellFormed};
 
 /// A locked node refuses what would change it: its mode, owner, times, bytes or attributes, an entry in it, or the entry that
 /// names it. The tree above it may be removed whole.
@@ -43,4 +44,12 @@ pub fn locked_trees_stay()
         → AllSpareTree (tree_after (tree_after_all (made_tree block_size time) calls) pass (ops.LockTree inode) now) inode more
         → StaysLocked inode (tree_after_all (made_tree block_size time) calls)
         (tree_after_all (tree_after (tree_after_all (made_tree block_size time) calls) pass (ops.LockTree inode) now) more) }
+{}
+
+/// The same in every well-formed tree, along every run of calls with what they were answered, where an error, a fault or a word of
+/// lost bytes leaves the tree: once a LockTree is answered Done, all at and below its inode stays as it is but for ctime, with the
+/// same names, until a RemoveTree of it or of a directory above it has an answer that does not leave the tree.
+pub fn locked_trees_stay_along_runs()
+    ensures { (t : Tree) (pass now inode : ℕ) (run : List Answered) → IsWellFormed t → reply_to t pass (ops.LockTree inode) now ≡ replies.Done
+        → RunSparesTree (tree_after t pass (ops.LockTree inode) now) inode run → StaysLocked inode t (tree_at_end (tree_after t pass (ops.LockTree inode) now) run) }
 {}

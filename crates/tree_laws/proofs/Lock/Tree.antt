@@ -170,7 +170,8 @@ there_below t sound top folder x within =
       | inr from ↦ sound.grown.there from.0 x from.1 from.3
     ]
 
-locked_by : (t : Tree) → Sound t → (more : List Request) (pass now top : ℕ) → reply_to t pass (ops.LockTree top) now ≡ replies.Done → AllSpareTree (tree_after t pass (ops.LockTree top) now) top more
+-- a locked tree stays
+pub locked_by : (t : Tree) → Sound t → (more : List Request) (pass now top : ℕ) → reply_to t pass (ops.LockTree top) now ≡ replies.Done → AllSpareTree (tree_after t pass (ops.LockTree top) now) top more
     → StaysLocked top t (tree_after_all (tree_after t pass (ops.LockTree top) now) more)
 locked_by t sound more pass now top done spare =
     let op : Op = ops.LockTree top in
@@ -206,7 +207,7 @@ locked_by t sound more pass now top done spare =
       its_name = λ q m names. (keeps q m names).name;
     }
 
--- and so does a locked tree
+-- and so does a locked tree, in every tree that calls lead to
 pub trees_stay : (block_size time : ℕ) (calls more : List Request) (pass now inode : ℕ) → reply_to (tree_after_all (made_tree block_size time) calls) pass (ops.LockTree inode) now ≡ replies.Done
     → AllSpareTree (tree_after (tree_after_all (made_tree block_size time) calls) pass (ops.LockTree inode) now) inode more
     → StaysLocked inode (tree_after_all (made_tree block_size time) calls) (tree_after_all (tree_after (tree_after_all (made_tree block_size time) calls) pass (ops.LockTree inode) now) more)
