@@ -1,5 +1,6 @@
 pub mod BranchSteps
 pub mod Come
+pub mod FoundEntry
 pub mod ListedRows
 pub mod LockPlanned
 pub mod LockedRows

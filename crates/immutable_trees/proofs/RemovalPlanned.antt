@@ -37,6 +37,7 @@ use Rattle.ref_counts.specs.Handles.{HasHandles, OpenHandles}
 use Rattle.ref_counts.specs.Plans.{IsPlanOf, IsStep}
 use Rattle.ref_counts.proofs.Idle.{IsStep-same, IsWorn-nameless}
 use Rattle.row_steps.proofs.Owed.Inodes.{one_number}
+use Rattle.dir_ops.proofs.FirstFailures.{first_failure-behind}
 use Rattle.immutable_trees.specs.Branches.{CanRemove, IsThere}
 use Rattle.immutable_trees.specs.Levels.{lock_plan}
 use Rattle.immutable_trees.specs.Removals.{FindsEntry}
@@ -45,11 +46,6 @@ use Rattle.immutable_trees.proofs.ListedRows.{entry_in_tree, same_row}
 use Rattle.immutable_trees.proofs.RemovedSteps.{IsOnTheWay, all_steps, removed_step}
 use Rattle.immutable_trees.proofs.ShrunkTree.{LeavesOuter-refl, Shrinks-refl}
 use Rattle.immutable_trees.proofs.TakenRest.{Rest-refl}
-
-first_failure-behind : (others more : List (Option ℕ)) → first_failure others ≡ None → first_failure (others ++ more) ≡ first_failure more
-first_failure-behind [] more passes = refl
-first_failure-behind (None ∷ others) more passes = first_failure-behind others more passes
-first_failure-behind (Some errno ∷ others) more passes = absurd (cc passes)
 
 some_of : {X : Type 0} (found : Option X) → IsTrue (is_some found) → (x : X) × (found ≡ Some x)
 some_of None is = absurd (cc is)

@@ -16,7 +16,7 @@ use Rattle.ref_counts.specs.Links.{places_dropped, places_from, places_of_gone}
 use Rattle.ref_counts.specs.Names.{lowered, lowered_at, lowered_of}
 use Rattle.ref_counts.specs.Removals.{attrs_dropped, attrs_of, removal, target_dropped}
 use Rattle.ref_counts.proofs.LastChanges.{read-kept, read-said, row_at-put_said, row_at-without_said}
-use Rattle.row_steps.specs.RowChanges.{counted_row, dropping, touched_row}
+use Rattle.row_steps.specs.RowChanges.{counted_row, dropping}
 use Rattle.row_steps.proofs.WithPlaces.{name_at-places_of_gone}
 use Rattle.immutable_trees.specs.RemovedRows.{HasOwn, file_taken, folder_taken, inode_put, taking, uprooted}
 
@@ -93,17 +93,11 @@ module _ (told : Tables) (old : List Change) where
       ∙ append_assoc old (gone ++ taking c n) (cond kept (changes.PutInode (counted_row (r.refcount - 1) now r) ∷ []) (removal t r.id (tables_after (gone ++ taking c n) t)))
 
   -- the last entry, whose directory is touched
-  pub last_batch : (d : Inode) (c : Content) (n : Name) (r : Inode) (now : ℕ) (lifted down new : List Change) → HasOwn told t r.id → r.id ≡ c.inode
-      → lifted ≡ old ++ changes.DeleteContent c.parent c.name_id ∷ changes.PutInode (touched_row now d) ∷ [] → down ≡ lifted ++ lowered_at (tables_after lifted told) c.name_id
-      → name_at t c.name_id ≡ Some n → new ≡ down ++ removal told c.inode (tables_after down told) → new ≡ old ++ uprooted now t d r c n
-  last_batch d c n r now lifted down new own number is lowers named added =
-      let two : List Change = changes.DeleteContent c.parent c.name_id ∷ changes.PutInode (touched_row now d) ∷ [] in
+  pub last_batch : (d : Inode) (c : Content) (n : Name) (r : Inode) (now : ℕ) (down new : List Change) → HasOwn told t r.id → r.id ≡ c.inode
+      → down ≡ old ++ dropping d c n now → new ≡ down ++ removal told c.inode (tables_after down told) → new ≡ old ++ uprooted now t d r c n
+  last_batch d c n r now down new own number is added =
       let dropped : List Change = dropping d c n now in
-      let down_is : down ≡ old ++ dropped =
-      lowers ∙ ap (λ (b : List Change). b ++ lowered_at (tables_after b told) c.name_id) is
-      ∙ ap (λ (u : Tables). old ++ two ++ lowered_at u c.name_id) (after two)
-      ∙ ap (λ (found : Option Name). old ++ two ++ lowered_of found) named ∙ append_assoc old two (lowered n) in
-      added ∙ ap (λ (b : List Change). b ++ removal told c.inode (tables_after b told)) down_is
+      added ∙ ap (λ (b : List Change). b ++ removal told c.inode (tables_after b told)) is
       ∙ ap (λ (u : Tables). old ++ dropped ++ removal told c.inode u) (after dropped)
       ∙ ap (λ x. old ++ dropped ++ removal told x (tables_after dropped t)) (sym number)
       ∙ ap (λ (cs : List Change). old ++ dropped ++ cs) (removal_told told t (tables_after dropped t) r.id own)

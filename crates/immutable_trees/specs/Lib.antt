@@ -1,5 +1,6 @@
 pub mod Branches
 pub mod Levels
 pub mod LockedRows
+pub mod Plans
 pub mod Removals
 pub mod RemovedRows

@@ -3,6 +3,7 @@
 
 mod laws;
 mod lock;
+mod plans;
 mod removal;
 mod taken;
 mod uproot;
@@ -10,4 +11,5 @@ mod walk;
 
 pub use laws::{locked_trees_are_steps, removed_trees_are_steps};
 pub use lock::lock_batch;
-pub use removal::plan_removal;
+pub use plans::plan;
+pub use removal::remove_batch;

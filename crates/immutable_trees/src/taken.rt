@@ -1,19 +1,16 @@
 //! What goes with an entry that goes.
-ghost use Rattle.std.specs.Prelude.{◌≡◌, ◌-◌, ◌<◌, ◌^◌, ◌++◌, ◌||◌, [], ◌∷◌, nat_lt, Some, if◌then◌else◌, IfOk, OnOk};
+ghost use Rattle.std.specs.Prelude.{◌≡◌, ◌<◌, ◌^◌, ◌++◌, [], Some, if◌then◌else◌, IfOk, OnOk};
 ghost use Rattle.s3_base.specs.Faults.{HasCause};
-ghost use Rattle.s3_rows.specs.declared.change.Change.TheVariants as changes;
 ghost use Rattle.s3_rows.specs.Batches.{tables_after};
 ghost use Rattle.s3_rows.specs.Rows.{Inode, IsId, Name};
 ghost use Rattle.s3_rows.specs.Selections.{inode_at, name_at};
 ghost use Rattle.s3_rows.specs.Tables.{IsOrdered};
 ghost use Rattle.s3_rows.specs.Told.{IfTold, has_failed};
-ghost use Rattle.ref_counts.specs.Handles.{is_held};
 ghost use Rattle.ref_counts.specs.Links.{places_dropped, places_from};
-ghost use Rattle.ref_counts.specs.Removals.{removal};
-ghost use Rattle.row_steps.specs.RowChanges.{counted_row};
 ghost use Rattle.immutable_trees.specs.RemovedRows.{HasOwn, file_taken, folder_taken, inode_put, taking};
 
-use ref_counts::{Handles, drop_file, drop_links, name_down};
+use dir_ops::old_link::drop_link;
+use ref_counts::{drop_file, drop_links, name_down};
 use s3_rows::{Batch, Change, ContentRow, InodeRow, Keeper, KeeperFault, RowId};
 
 /// The inode that a change puts.
@@ -40,13 +37,6 @@ pub(crate) fn pending_inode<K: Keeper>(
         Some(change) => Ok(inode_put(change)),
         None => keeper.inode(id),
     }
-}
-
-/// Another entry names the file, or a handle is open on it.
-pub(crate) fn is_kept(file: &InodeRow, handles: &Handles) -> bool
-    ensures { result ≡ (nat_lt 1 file.now.refcount || is_held handles.now file.now.id) }
-{
-    file.refcount > 1 || handles.is_held(file.id)
 }
 
 /// Deletes an entry, and takes the use of its name away.
@@ -97,39 +87,6 @@ fn drop_places<K: Keeper>(
     drop_links(keeper, batch, inode, 0)
 }
 
-/// The row with one link less.
-fn counted_once_less(file: &InodeRow, now: u64) -> InodeRow
-    requires { now < 2 ^ 62 }
-    ensures { result ≡ counted_row (file.now.refcount - 1) now file.now }
-{
-    InodeRow {
-        refcount: file.refcount.saturating_sub(1),
-        ctime: now,
-        ..*file
-    }
-}
-
-/// The file counts one link less where it is kept, and goes where it is not.
-fn leave_or_drop<K: Keeper>(
-    keeper: &mut K,
-    batch: &mut Batch,
-    kept: bool,
-    file: &InodeRow,
-    now: u64,
-) -> Result<(), KeeperFault>
-    requires { now < 2 ^ 62 }
-    ensures dropped { OnOk result (IfTold (K.told keeper.old) (λ t. IsOrdered t → batch.new ≡ batch.old ++ (if kept
-        then changes.PutInode (counted_row (file.now.refcount - 1) now file.now) ∷ [] else removal t file.now.id (tables_after batch.old t)))) }
-    ensures same { K.told keeper.new ≡ K.told keeper.old }
-    ensures cause { HasCause (K.faults keeper.old) (K.faults keeper.new) (has_failed result) }
-{
-    if kept {
-        batch.push(Change::PutInode(counted_once_less(file, now)))?;
-        return Ok(());
-    }
-    drop_file(keeper, batch, file.id)
-}
-
 /// Deletes the entry of a file or a link, which stays, stamped, where it is kept, and goes where it is not.
 pub(crate) fn take_file<K: Keeper>(
     keeper: &mut K,
@@ -147,5 +104,5 @@ pub(crate) fn take_file<K: Keeper>(
 {
     drop_places(keeper, batch, kept, file.id)?;
     take_entry(keeper, batch, entry)?;
-    leave_or_drop(keeper, batch, kept, file, now)
+    drop_link(keeper, batch, kept, file, now)
 }

@@ -17,4 +17,4 @@ returns-clause-taken g c =
     (places ordered ∙ ap (λ (r : Inode). c.args.batch.now ++ cond c.args.kept [] (places_dropped (places_from t r.id 0) (tables_after c.args.batch.now t))) c.file.view_is) (first n) (added ordered))
     c.in_ok-drop_places.ensures.dropped (IfTold-same told _ _ c.in_ok-drop_places.ensures.same c.in_ok-take_entry.ensures.taken)
     (IfTold-same told _ _ (c.in_ok-take_entry.ensures.same ∙ c.in_ok-drop_places.ensures.same) own))
-    c.leave_or_drop.result c.leave_or_drop.ensures.dropped
+    c.drop_link.result c.drop_link.ensures.dropped
