@@ -6,11 +6,11 @@ use Rattle.std.proofs.lemmas.Bool.{and_parts}
 use Rattle.op_frames.specs.declared.operation.Op.{Op}
 use Rattle.plain_tree.specs.Tree.{Node, Tree, changed_by, node_at}
 use Rattle.plain_tree.specs.Checks.{first_failure}
-use Rattle.plain_tree.specs.Classes.{Bytes, Trees, class_of}
+use Rattle.plain_tree.specs.Classes.{Bytes, class_of}
 use Rattle.plain_tree.specs.Files.{file_at, bytes_of}
 use Rattle.plain_tree.specs.Operations.{checks, effect}
 use Rattle.plain_tree.specs.WellFormed.{IsWellFormed}
-use Rattle.tree_laws.specs.Files.{KeepsFiles}
+use Rattle.tree_laws.specs.Files.{KeepsFiles, copies_files}
 use Rattle.tree_laws.proofs.File.Unwritten.{KeepsFiles-effect}
 use Rattle.tree_laws.proofs.Node.Reading.{node_at_none_next}
 use Rattle.tree_laws.proofs.Walk.Edits.{edited}
@@ -35,10 +35,10 @@ use Rattle.byte_steps.proofs.SameForms.{piece_of-nil, shown_at-none, shown_at-sa
 
 -- ---- the tree
 
-pub KeepsBytes-effect : (whole : Tree) (pass now : ℕ) (op : Op) → IsWellFormed whole → class_of op ≢ Bytes → class_of op ≢ Trees
+pub KeepsBytes-effect : (whole : Tree) (pass now : ℕ) (op : Op) → IsWellFormed whole → class_of op ≢ Bytes → copies_files op ≡ false
     → first_failure (checks whole pass op) ≡ None → KeepsBytes whole (effect whole pass op now)
-KeepsBytes-effect whole pass now op formed no_bytes no_trees passes x bytes is =
-    let keeps : KeepsFiles whole (effect whole pass op now) = KeepsFiles-effect whole pass now op formed.nodes no_bytes no_trees passes in
+KeepsBytes-effect whole pass now op formed no_bytes no_copies passes x bytes is =
+    let keeps : KeepsFiles whole (effect whole pass op now) = KeepsFiles-effect whole pass now op formed.nodes no_bytes no_copies passes in
     elim (keeps.files x bytes is) [
       | inl there ↦ inl there
       | inr new ↦ inr (new.1, node_at_none_next whole formed.nodes x new.0)

@@ -76,6 +76,7 @@ const SHAPES: &[(&str, Shape)] = &[
     ("release", (16, INODE)),
     ("read", (17, &[Field::Long, Field::Long, Field::Middle])),
     ("write", (18, &[Field::Long, Field::Long, Field::Data])),
+    ("fsync", (19, INODE)),
     ("readdir", (20, PAGE)),
     ("statfs", (21, &[])),
     (
@@ -85,6 +86,9 @@ const SHAPES: &[(&str, Shape)] = &[
     ("getxattr", (23, INODE_AND_NAME)),
     ("listxattr", (24, PAGE)),
     ("removexattr", (25, INODE_AND_NAME)),
+    ("copytree", (26, &[Field::Long, Field::Long, Field::Name])),
+    ("locktree", (27, INODE)),
+    ("removetree", (28, INODE_AND_NAME)),
     ("flushcache", (29, &[])),
     ("leave", (32, &[])),
 ];

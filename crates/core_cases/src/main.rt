@@ -1,5 +1,6 @@
-//! Worked cases of the core over a keeper in memory. Each line of standard input is a case: its name, the numbers of the keeper's
-//! calls that fail, and the steps, with bars between. For each case one line is printed: its name, and what comes of each step.
+//! Worked cases of the core over a keeper and an object store in memory. Each line of standard input is a case: its name, the numbers of
+//! the calls that fail (those of the keeper, and behind a slash those of the store), and the steps, with bars between. For each case one
+//! line is printed: its name, and what comes of each step.
 #![tactic(auto)]
 
 mod calls;
@@ -10,6 +11,7 @@ mod serving;
 use crate::serving::{Served, step};
 use case_words::{Case, add_outcome, case_of, line_for, numbers_of};
 use mem_keeper::MemKeeper;
+use mem_link::MemLink;
 use s3_base::NumberList;
 use std::alloc::{AllocError, Global};
 use std::io;
@@ -18,32 +20,40 @@ use std::io;
 fn take_steps(
     alloc: Global,
     served: &mut Served,
+    link: &mut MemLink,
     steps: &str,
     printed: &mut String,
 ) -> Result<(), AllocError> {
     for text in steps.split(';') {
-        add_outcome(printed, step(alloc, served, text)?.as_str())?;
+        add_outcome(printed, step(alloc, served, link, text)?.as_str())?;
     }
     Ok(())
 }
 
-/// The same over an empty keeper, of which the listed calls fail. It goes at the one end of this function: a proof goes through all
-/// its parts at each end.
+/// The same over an empty keeper and an empty store, of which the listed calls fail. They go at the one end of this function: a proof
+/// goes through all their parts at each end.
 fn begin(
     alloc: Global,
-    fails: NumberList,
+    keeper_fails: NumberList,
+    link_fails: NumberList,
     steps: &str,
     printed: &mut String,
 ) -> Result<(), AllocError> {
-    let mut served = Served::Shut(MemKeeper::with_fails(alloc, fails));
-    take_steps(alloc, &mut served, steps, printed)
+    let mut served = Served::Shut(MemKeeper::with_fails(alloc, keeper_fails));
+    let mut link = MemLink::with_fails(alloc, link_fails);
+    take_steps(alloc, &mut served, &mut link, steps, printed)
 }
 
 /// The line that is printed for a case.
 fn answered(alloc: Global, case: &Case<'_>) -> Result<String, AllocError> {
-    let fails = numbers_of(alloc, case.fails)?;
     let mut printed = line_for(alloc, case)?;
-    begin(alloc, fails, case.steps, &mut printed)?;
+    let (keeper_text, link_text) = match case.fails.split_once('/') {
+        Some(parts) => parts,
+        None => (case.fails, ""),
+    };
+    let keeper_fails = numbers_of(alloc, keeper_text)?;
+    let link_fails = numbers_of(alloc, link_text)?;
+    begin(alloc, keeper_fails, link_fails, case.steps, &mut printed)?;
     Ok(printed)
 }
 

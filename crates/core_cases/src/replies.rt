@@ -80,6 +80,26 @@ fn fault_word(cause: Cause) -> &'static str {
     }
 }
 
+/// The object, the digest that is kept, and the one that was found, if any.
+fn lost_text(
+    alloc: Global,
+    object: u64,
+    kept: &[u8; 32],
+    got: &Option<[u8; 32]>,
+) -> Result<String, AllocError> {
+    let mut text = numbers_behind(alloc, "lost", &[object])?;
+    text.push(' ')?;
+    text.push_str(hex::encode(alloc, kept.as_slice())?.as_str())?;
+    match got {
+        Some(digest) => {
+            text.push(' ')?;
+            text.push_str(hex::encode(alloc, digest.as_slice())?.as_str())?;
+        }
+        None => text.push_str(" nothing")?,
+    }
+    Ok(text)
+}
+
 /// A reply in words.
 pub fn reply_text(alloc: Global, reply: &Reply) -> Result<String, AllocError> {
     match reply {
@@ -102,6 +122,6 @@ pub fn reply_text(alloc: Global, reply: &Reply) -> Result<String, AllocError> {
         Reply::Fault(cause) => String::from_str(alloc, fault_word(*cause)),
         Reply::Entries(entries) => entries_text(alloc, entries.as_slice()),
         Reply::Names(names) => names_text(alloc, names.as_slice()),
-        Reply::Lost { .. } => String::from_str(alloc, "a reply without words"),
+        Reply::Lost { object, kept, got } => lost_text(alloc, *object, kept, got),
     }
 }

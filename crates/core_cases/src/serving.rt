@@ -5,8 +5,11 @@ ghost use Rattle.op_frames.specs.Operations.{is_op};
 use crate::calls::frame_of;
 use crate::preparing::prepare;
 use crate::replies::reply_text;
+use case_words::{bytes_of, verb_of};
 use mem_keeper::MemKeeper;
+use mem_link::MemLink;
 use op_frames::{Op, Reply, Step, decode_call};
+use s3_base::ByteList;
 use std::alloc::{AllocError, Global};
 use std::mem;
 use volume_core::{OpenFault, RowCore};
@@ -36,26 +39,66 @@ fn mount(alloc: Global, keeper: MemKeeper) -> (Served, &'static str) {
 }
 
 /// The reply of the core. Nothing is said of it here, so that proofs of what prints it have nothing to go through.
-fn answered(core: &mut RowCore<MemKeeper>, pass: u64, op: &Op, now: u64) -> Reply
+fn answered(
+    core: &mut RowCore<MemKeeper>,
+    link: &mut MemLink,
+    pass: u64,
+    op: &Op,
+    now: u64,
+) -> Reply
     requires op { IsTrue (is_op op.now) }
     requires now { now < 2 ^ 62 }
 {
-    core.answer(pass, op, now)
+    core.answer(pass, op, now, link)
 }
 
 /// The reply to a call in words.
-fn call(alloc: Global, core: &mut RowCore<MemKeeper>, text: &str) -> Result<String, AllocError> {
+fn call(
+    alloc: Global,
+    core: &mut RowCore<MemKeeper>,
+    link: &mut MemLink,
+    text: &str,
+) -> Result<String, AllocError> {
     let frame = frame_of(alloc, text)?;
     match decode_call(alloc, &frame) {
-        Ok((Step::Call { pass, now, op }, _)) => reply_text(alloc, &answered(core, pass, &op, now)),
+        Ok((Step::Call { pass, now, op }, _)) => {
+            reply_text(alloc, &answered(core, link, pass, &op, now))
+        }
         _ => String::from_str(alloc, "no call"),
     }
 }
 
+/// The longest key that a step may name, in bytes.
+const LONGEST_KEY: usize = 64;
+
+/// Puts other bytes under a key of the store, behind the core's back.
+fn hold(alloc: Global, link: &mut MemLink, words: &str) -> Result<&'static str, AllocError> {
+    let (key, word) = verb_of(words);
+    if key.len() > LONGEST_KEY {
+        return Ok("no key");
+    }
+    let Some(bytes) = bytes_of(alloc, word)? else {
+        return Ok("no bytes");
+    };
+    link.hold(
+        ByteList::from_slice(alloc, key.as_bytes())?,
+        ByteList::from(bytes),
+    )?;
+    Ok("held")
+}
+
 /// Takes a step, and says what comes of it.
-pub fn step(alloc: Global, served: &mut Served, text: &str) -> Result<String, AllocError> {
+pub fn step(
+    alloc: Global,
+    served: &mut Served,
+    link: &mut MemLink,
+    text: &str,
+) -> Result<String, AllocError> {
+    if let ("hold", words) = verb_of(text) {
+        return String::from_str(alloc, hold(alloc, link, words)?);
+    }
     match served {
-        Served::Open(core) => call(alloc, core, text),
+        Served::Open(core) => call(alloc, core, link, text),
         Served::Shut(keeper) => {
             if text.trim_ascii() != "mount" {
                 return prepare(alloc, keeper, text);

@@ -1,5 +1,5 @@
 -- Which operations the core has, and what it answers. When an operation is built, its code goes into `is_built_code`.
-use Rattle.std.specs.Prelude.{◌≡◌, ◌⊎◌, ℕ, ◌==◌, List, [], ◌∷◌, Bool, IsTrue, if◌then◌else◌}
+use Rattle.std.specs.Prelude.{ℕ, ◌==◌, [], ◌∷◌, Bool, if◌then◌else◌}
 use Rattle.std.specs.List.{list_any}
 use Rattle.op_frames.specs.declared.operation.Op.{Op}
 use Rattle.op_frames.specs.declared.reply.Reply.{Reply}
@@ -7,15 +7,15 @@ use Rattle.op_frames.specs.declared.reply.Reply.TheVariants as replies
 use Rattle.op_frames.specs.Operations.{op_code}
 use Rattle.op_frames.specs.Replay.{Request}
 use Rattle.plain_tree.specs.Tree.{Tree}
-use Rattle.plain_tree.specs.Operations.{reply_to, tree_after}
-use Rattle.plain_tree.specs.Calls.{no_memory}
+use Rattle.plain_tree.specs.Operations.{reply_to}
 
 -- the codes of the operations that are built: Lookup, Getattr, Chmod, Chown, Utimes, Truncate, Mkdir, Create, Unlink, Rmdir, Rename,
--- Link, Symlink, Readlink, Open, Release, Read, Write, Readdir, Statfs, the four on extended attributes, and Leave
+-- Link, Symlink, Readlink, Open, Release, Read, Write, Fsync, Readdir, Statfs, the four on extended attributes, LockTree, RemoveTree,
+-- and Leave
 abbrev pub is_built_code : ℕ → Bool
 is_built_code code =
     list_any (λ built. built == code)
-    (1 ∷ 2 ∷ 3 ∷ 4 ∷ 5 ∷ 6 ∷ 7 ∷ 8 ∷ 9 ∷ 10 ∷ 11 ∷ 12 ∷ 13 ∷ 14 ∷ 15 ∷ 16 ∷ 17 ∷ 18 ∷ 20 ∷ 21 ∷ 22 ∷ 23 ∷ 24 ∷ 25 ∷ 32 ∷ [])
+    (1 ∷ 2 ∷ 3 ∷ 4 ∷ 5 ∷ 6 ∷ 7 ∷ 8 ∷ 9 ∷ 10 ∷ 11 ∷ 12 ∷ 13 ∷ 14 ∷ 15 ∷ 16 ∷ 17 ∷ 18 ∷ 19 ∷ 20 ∷ 21 ∷ 22 ∷ 23 ∷ 24 ∷ 25 ∷ 27 ∷ 28 ∷ 32 ∷ [])
 
 abbrev pub is_built : Op → Bool
 is_built op = is_built_code (op_code op)
@@ -27,19 +27,3 @@ not_built = replies.Errno (record { 0 = 38 })
 -- The reply to a call: that of the plain tree's rules, or ENOSYS before every check where the operation is not built.
 abbrev pub core_reply : Tree → Request → Reply
 core_reply t call = if is_built call.op then reply_to t call.pass call.op call.now else not_built
-
--- the tree after it: an operation that is not built changes nothing
-abbrev pub core_tree : Tree → Request → Tree
-core_tree t call = if is_built call.op then tree_after t call.pass call.op call.now else t
-
--- Reply and tree are these; or memory ran out at an operation that is built, and the tree is as before.
-abbrev pub IsCoreAnswer : Tree → Request → Reply → Tree → Type 0
-IsCoreAnswer t call reply after =
-    ((reply ≡ core_reply t call) × (after ≡ core_tree t call)) ⊎ (IsTrue (is_built call.op) × (reply ≡ no_memory) × (after ≡ t))
-
--- Each reply is the core's to the tree that the calls before it left.
-abbrev pub CoreAnswers : Tree → List Request → List Reply → Type 0
-CoreAnswers t [] [] = Unit {0}
-CoreAnswers t (call ∷ calls) (reply ∷ others) = (after : Tree) × IsCoreAnswer t call reply after × CoreAnswers after calls others
-CoreAnswers t [] (reply ∷ others) = ⊥
-CoreAnswers t (call ∷ calls) [] = ⊥

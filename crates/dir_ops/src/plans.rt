@@ -38,7 +38,7 @@ pub fn plan<K: Keeper>(
 ) -> Result<Plan, KeeperFault>
     requires planned { IsTrue (is_planned op.now) }
     requires now { now < 2 ^ 62 }
-    // No file has blocks yet, in the store or in slots.
+    // No slot of a cache disk is in use.
     ensures plan { IfOk result (λ p. IfTold (K.told keeper.old) (λ t. IsValid t → HasUniqueNames t → t.slots ≡ []
         → (whole : Tree) → Represents t whole → IsWellFormed whole → HasHandles handles.now whole → IsPlanOf t whole pass op.now now p)) }
     ensures same { K.told keeper.new ≡ K.told keeper.old }

@@ -1,7 +1,13 @@
 pub mod Answering
+pub mod Begun
+pub mod BlockRoom
+pub mod Blocks
+pub mod Bounds
 pub mod Digits
 pub mod Frame
 pub mod Next
 pub mod Room
+pub mod Runs
+pub mod Stored
 pub mod Streams
 pub mod Turn

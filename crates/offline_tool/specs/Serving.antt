@@ -1,18 +1,51 @@
--- The core of a replay.
-use Rattle.std.specs.Prelude.{ℕ, ◌+◌, ◌≤◌, Option, Some}
+-- The core of a replay, with its store.
+use Rattle.std.specs.Prelude.{ℕ, ◌+◌, ◌*◌, ◌<◌, ◌≤◌, length, Option, Some}
+use Rattle.sha2.specs.Sha256.{sha256}
+use Rattle.plain_tree.specs.Calls.{Answered, tree_after_reply}
 use Rattle.plain_tree.specs.Tree.{Tree}
+use Rattle.s3_rows.specs.Stores.{AreHeld}
 use Rattle.s3_rows.specs.Told.{Told}
+use Rattle.s3_devices.specs.Keys.{objects_in}
+use Rattle.tree_rows.specs.Contents.{Contents}
+use Rattle.block_steps.specs.Owed.{next_block_of}
+use Rattle.core_model.specs.Occurring.{KnowsAll, blocks_in}
+use Rattle.file_ops.specs.FileChanges.{next_object_of}
 use Rattle.ref_counts.specs.Plans.{next_name_of, uses_of}
-use Rattle.volume_core.specs.declared.row_core.RowCore.{RowCore}
+use Rattle.volume_core.specs.Backed.{IsBacked}
 use Rattle.volume_core.specs.Standing.{StandsFor}
+use Rattle.offline_tool.specs.declared.served.Served.{Served}
+use Rattle.offline_tool.specs.Runs.{IsLikeReply, IsSameReply}
 
--- what its keeper tells
+-- what the keeper tells
 abbrev pub told_by : Told → Option Told
 told_by s = Some s
 
--- It stands for the tree, and at this place of the input no more names are drawn and used than there were bytes, beside the
--- one of the file system that was just made.
-pub record Serves (core : RowCore Told) (place : ℕ) (whole : Tree) : Type 0 where
-  pub stands : StandsFor told_by core whole
-  pub names : next_name_of stands.now.tables ≤ place + 2
-  pub uses : uses_of stands.now.tables ≤ place + 1
+-- The core stands for the tree, and the store holds the object of each block. At this place of the input no more names are drawn and
+-- used than there were bytes, beside the one of the file system that was just made, and no more than 34 times as many numbers and
+-- places of blocks.
+pub record Serves (s : Served) (place : ℕ) (whole : Tree) : Type 0 where
+  pub stands : StandsFor told_by s.core whole
+  pub size : 0 < whole.block_size
+  pub held : AreHeld sha256 (objects_in s.link) s.core.keeper.tables.blocks
+  pub names : next_name_of s.core.keeper.tables ≤ place + 2
+  pub uses : uses_of s.core.keeper.tables ≤ place + 1
+  pub blocks : next_block_of s.core.keeper.tables ≤ 34 * place + 1
+  pub objects : next_object_of s.core.keeper.tables ≤ 34 * place + 1
+  pub places : length s.core.keeper.tables.inode_blocks ≤ 34 * place
+
+-- tables and store have the bytes of the tree, for these contents
+abbrev pub HasBytesOf : Contents → Served → Tree → Type 0
+HasBytesOf m s whole = IsBacked m s.core.keeper.tables s.link whole
+
+-- What an answered call leaves, at a place behind it: the core serves the tree after it. Its reply is like that of the rules; and for
+-- contents that know the blocks of the tree after it, it is the very same, and the bytes of that tree are there.
+pub record IsServed (before after : Served) (behind : ℕ) (whole : Tree) (a : Answered) : Type 0 where
+  pub serves : Serves after behind (tree_after_reply whole a)
+  pub like : IsLikeReply whole a
+  pub backed : (m : Contents) → HasBytesOf m before whole → KnowsAll sha256 m (blocks_in (tree_after_reply whole a))
+      → IsSameReply whole a × HasBytesOf m after (tree_after_reply whole a)
+
+-- A core that was just opened, at the beginning of an input.
+pub record IsBegun (s : Served) (whole : Tree) : Type 0 where
+  pub serves : Serves s 0 whole
+  pub backed : (m : Contents) → HasBytesOf m s whole

@@ -5,16 +5,17 @@ ghost use Rattle.s3_base.specs.Stream.{Stream, Appends, AppendsFront};
 ghost use Rattle.op_frames.specs.Answers.{has_short_data, answer_frame, bad_input_frame};
 ghost use Rattle.op_frames.specs.Replay.{replay_of};
 ghost use Rattle.offline_tool.specs.Input.{replay_left};
-ghost use Rattle.offline_tool.specs.Output.{EndsWith, GoesOn, HasVerdict};
-ghost use Rattle.plain_tree.specs.Tree.{Tree};
+ghost use Rattle.offline_tool.specs.Output.{EndsWith, HasVerdict};
 ghost use Rattle.offline_tool.specs.Limits.{AreWithin};
-ghost use Rattle.offline_tool.specs.Serving.{Serves};
-ghost use Rattle.offline_tool.specs.Turns.{stopped_turn, IsStatus, IsTurn, HasFault, KeepsVerdict, KeepsOutput};
+ghost use Rattle.offline_tool.specs.Turns.{stopped_turn, IsStatus, IsTurn, HasFault, IsMidway, KeepsVerdict, KeepsOutput};
 
 use crate::frames::MAX_FRAME;
 use crate::reader::{self, Next, Stop};
 use crate::served::{self, Served};
 use crate::words::Limits;
+use core_model::{
+    contents_of_blocks_know_them, longer_runs_have_more_blocks, trees_on_the_way_occur,
+};
 use op_frames::{Reply, encode_answer, encode_bad_input};
 use s3_base::{Sink, Source};
 use std::alloc::Global;
@@ -80,7 +81,7 @@ fn put_bad_input<T: Sink>(alloc: Global, sink: &mut T, place: u64) -> Result<(),
 /// Reads the frame at `place`, and answers it.
 fn take_turn<S: Source, T: Sink>(
     alloc: Global,
-    core: &mut Served,
+    served: &mut Served,
     source: &mut S,
     sink: &mut T,
     buffer: &mut [u8],
@@ -94,10 +95,13 @@ fn take_turn<S: Source, T: Sink>(
     ensures fault { HasFault result (HasRisen (S.faults source.old) (S.faults source.new) ⊎ HasRisen (T.faults sink.old) (T.faults sink.new)) }
     ensures verdict { (s : Stream) → S.told source.old ≡ Some s
         → KeepsVerdict result (replay_left place s).verdict (S.told source.new) }
-    ensures output { (s : Stream) (block_size : ℕ) (input before out : List ℕ) (tree : Tree) → S.told source.old ≡ Some s
-        → T.written sink.old ≡ Some (before ++ out) → Serves core.old place tree → GoesOn block_size input tree (replay_left place s) out
-        → KeepsOutput result block_size input core.new before (S.told source.new) (T.written sink.new) }
+    ensures output { (s : Stream) (block_size : ℕ) (input before out : List ℕ) → S.told source.old ≡ Some s
+        → T.written sink.old ≡ Some (before ++ out) → IsMidway block_size input served.old place (replay_left place s) out
+        → KeepsOutput result block_size input served.new before (S.told source.new) (T.written sink.new) }
 {
+    longer_runs_have_more_blocks();
+    trees_on_the_way_occur();
+    contents_of_blocks_know_them();
     match reader::next_step(alloc, source, buffer, place) {
         Ok(
             Next::Call {
@@ -107,7 +111,7 @@ fn take_turn<S: Source, T: Sink>(
                 behind,
             },
         ) => {
-            let reply = served::answer(core, pass, &op, now);
+            let reply = served::answer(served, pass, &op, now);
             match put_answer(alloc, sink, &reply) {
                 Ok(()) => Turn::On(behind),
                 Err(stop) => stopped(stop),
@@ -136,7 +140,7 @@ pub fn replay<S: Source, T: Sink>(
     ensures output { (s : Stream) (before : List ℕ) → S.told source.old ≡ Some s → T.written sink.old ≡ Some before
         → (out : List ℕ) × (T.written sink.new ≡ Some (before ++ out)) × EndsWith limits.now.block_size s.left result out }
 {
-    let Ok(mut core) = served::open_made(alloc, limits.block_size, limits.slots) else {
+    let Ok(mut served) = served::open_made(alloc, limits.block_size, limits.slots) else {
         return NO_MEMORY;
     };
     let Ok(mut buffer) = vec![in alloc; 0u8; MAX_FRAME] else {
@@ -144,7 +148,7 @@ pub fn replay<S: Source, T: Sink>(
     };
     let mut place = 0;
     loop {
-        match take_turn(alloc, &mut core, source, sink, &mut buffer, place) {
+        match take_turn(alloc, &mut served, source, sink, &mut buffer, place) {
             Turn::On(behind) => place = behind,
             Turn::End(status) => return status,
         }

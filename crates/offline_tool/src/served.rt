@@ -1,4 +1,4 @@
-//! The core of a replay: a file system that is made for it, whose rows stand in memory.
+//! The core of a replay: a file system that is made for it, whose rows and objects stand in memory.
 ghost use Rattle.std.specs.Prelude.{◌≡◌, ◌<◌, ◌≤◌, ◌*◌, ◌^◌, ℕ, IsTrue, IfOk};
 ghost use Rattle.op_frames.specs.Operations.{is_op};
 ghost use Rattle.op_frames.specs.Answers.{has_short_data};
@@ -6,18 +6,25 @@ ghost use Rattle.op_frames.specs.Replies.{is_reply};
 ghost use Rattle.op_frames.specs.Replay.{input_limit};
 ghost use Rattle.plain_tree.specs.Tree.{Tree, made_tree};
 ghost use Rattle.s3_rows.specs.Made.{made_tables};
-ghost use Rattle.core_rules.specs.Built.{IsCoreAnswer};
-ghost use Rattle.offline_tool.specs.Serving.{Serves};
+ghost use Rattle.volume_core.specs.Answers.{answered};
+ghost use Rattle.offline_tool.specs.Serving.{IsBegun, IsServed, Serves};
 
+use byte_steps::operations_on_names_keep_bytes;
+use core_model::tables_have_the_bytes_of_their_tree;
 use op_frames::{Op, Reply};
 use s3_rows::{Keeper, made_batch};
 use std::alloc::{AllocError, Global};
 use steady_keeper::SteadyKeeper;
+use steady_link::SteadyLink;
 use tree_rows::made_tables_are_the_made_tree;
 use volume_core::{RowCore, made_tables_are_ready};
 
-/// A core over a keeper in memory, which never fails.
-pub type Served = RowCore<SteadyKeeper>;
+/// A core over a keeper in memory, with an object store in memory. Neither ever fails.
+#[derive(Drop)]
+pub struct Served {
+    core: RowCore<SteadyKeeper>,
+    link: SteadyLink,
+}
 
 /// A keeper of the tables of a file system that was just made, at time 0.
 fn made_keeper(alloc: Global, block_size: u32, slots: u32) -> Result<SteadyKeeper, AllocError>
@@ -35,31 +42,38 @@ fn made_keeper(alloc: Global, block_size: u32, slots: u32) -> Result<SteadyKeepe
     }
 }
 
-/// Makes a file system with blocks of so many bytes and so many slots at time 0, and opens it.
+/// Makes a file system with blocks of so many bytes and so many slots at time 0, over an empty store, and opens it.
 pub fn open_made(alloc: Global, block_size: u32, slots: u32) -> Result<Served, AllocError>
     requires least { 4096 ≤ block_size }
     requires greatest { block_size ≤ 10485760 }
     requires slots { slots ≤ 65536 }
     requires disk { slots * block_size ≤ 2 ^ 32 }
-    ensures { IfOk result (λ core. Serves core 0 (made_tree block_size 0)) }
+    ensures { IfOk result (λ served. IsBegun served (made_tree block_size 0)) }
 {
     made_tables_are_ready();
     made_tables_are_the_made_tree();
+    tables_have_the_bytes_of_their_tree();
     let keeper = made_keeper(alloc, block_size, slots)?;
     match RowCore::open(alloc, keeper) {
-        Ok(core) => Ok(core),
+        Ok(core) => Ok(Served {
+            core,
+            link: SteadyLink::new(alloc),
+        }),
         Err(_) => Err(AllocError),
     }
 }
 
-/// Answers an operation whose frame lies in an input of at most 2^40 bytes. No keeper's fault is answered, and no name is worn.
-pub fn answer(core: &mut Served, pass: u64, op: &Op, now: u64) -> Reply
+/// Answers an operation whose frame lies in an input of at most 2^40 bytes. No fault but want of memory is answered, no number or
+/// count is worn, and nothing is lost.
+pub fn answer(served: &mut Served, pass: u64, op: &Op, now: u64) -> Reply
     requires op { IsTrue (is_op op.now) }
     requires now { now < 2 ^ 62 }
-    ensures answer { (place behind : ℕ) (whole : Tree) → Serves core.old place whole → place < behind → place ≤ input_limit
-        → (next : Tree) × Serves core.new behind next × IsCoreAnswer whole (record { pass = pass; now = now; op = op.now }) result next }
+    ensures answer { (place behind : ℕ) (whole : Tree) → Serves served.old place whole → place < behind → place ≤ input_limit
+        → IsServed served.old served.new behind whole (answered pass op.now now result) }
     ensures reply { IsTrue (is_reply result) }
     ensures short { IsTrue (has_short_data result) }
 {
-    core.answer(pass, op, now)
+    operations_on_names_keep_bytes();
+    let Served { core, link } = served;
+    core.answer(pass, op, now, link)
 }

@@ -1,5 +1,6 @@
 -- What a write and a truncation do to a file, and what other operations leave of it.
-use Rattle.std.specs.Prelude.{◌≡◌, ℕ, ◌+◌, ◌-◌, ◌≤◌, ◌⊎◌, List, [], ◌++◌, length, take, drop, replicate, min, Some}
+use Rattle.std.specs.Prelude.{◌≡◌, ℕ, ◌+◌, ◌-◌, ◌≤◌, ◌⊎◌, List, [], ◌++◌, length, take, drop, replicate, min, Bool, true, false, Some}
+use Rattle.op_frames.specs.declared.operation.Op.{Op}
 use Rattle.op_frames.specs.declared.operation.Op.TheVariants as ops
 use Rattle.op_frames.specs.declared.reply.Reply.TheVariants as replies
 use Rattle.plain_tree.specs.Tree.{Regular, Node, Handle, Tree, node_at, handle_of}
@@ -54,6 +55,11 @@ pub record IsResized (inode size now : ℕ) (t after : Tree) : Type 0 where
   pub zeros : drop (length old) new ≡ replicate (size - length old) 0
   pub reads : ReadsAs inode new t after
   pub only : ChangesOneNode inode t after
+
+-- the operation makes new files that have the bytes of others
+abbrev pub copies_files : Op → Bool
+copies_files (ops.CopyTree source parent name) = true
+copies_files _ = false
 
 -- each file has the bytes that it had, or is new and empty, under a number that was to come
 pub record KeepsFiles (t after : Tree) : Type 0 where

@@ -1,14 +1,14 @@
-ghost use Rattle.std.specs.Prelude.{◌≡◌, ◌≢◌, ◌<◌, ◌≤◌, ℕ, List, length};
+ghost use Rattle.std.specs.Prelude.{◌≡◌, ◌≢◌, ◌<◌, ◌≤◌, ℕ, List, length, false};
 ghost use Rattle.op_frames.specs.declared.operation.Op.{Op};
 ghost use Rattle.op_frames.specs.declared.operation.Op.TheVariants as ops;
 ghost use Rattle.op_frames.specs.declared.reply.Attr.{Attr};
 ghost use Rattle.op_frames.specs.declared.reply.Reply.TheVariants as replies;
 ghost use Rattle.plain_tree.specs.Tree.{Tree, handle_of};
-ghost use Rattle.plain_tree.specs.Classes.{Bytes, Trees, class_of};
+ghost use Rattle.plain_tree.specs.Classes.{Bytes, class_of};
 ghost use Rattle.plain_tree.specs.Files.{inode_of};
 ghost use Rattle.plain_tree.specs.Numbers.{InOrder};
 ghost use Rattle.plain_tree.specs.Operations.{reply_to, tree_after};
-ghost use Rattle.tree_laws.specs.Files.{IsWritten, IsResized, KeepsFiles, ReadsThere};
+ghost use Rattle.tree_laws.specs.Files.{IsWritten, IsResized, KeepsFiles, ReadsThere, copies_files};
 
 /// What is written is read: after a Write is answered with a count of at least 1, each handle on that file, of any pass,
 /// reads the data there. A gap reads as zeros, and nothing else has changed but the times of the file.
@@ -26,8 +26,8 @@ pub fn truncated_is_cut()
         → IsResized inode size now t (tree_after t pass (ops.Truncate inode size) now) }
 {}
 
-/// An operation that works neither on the bytes of one file nor on a whole subtree leaves the bytes of every file that stays,
-/// and the files that it makes are empty.
+/// An operation that neither works on the bytes of one file nor copies files leaves the bytes of every file that stays, and the files
+/// that it makes are empty.
 pub fn unwritten_files_keep_their_bytes()
-    ensures { (t : Tree) (pass now : ℕ) (op : Op) → InOrder t → class_of op ≢ Bytes → class_of op ≢ Trees → KeepsFiles t (tree_after t pass op now) }
+    ensures { (t : Tree) (pass now : ℕ) (op : Op) → InOrder t → class_of op ≢ Bytes → copies_files op ≡ false → KeepsFiles t (tree_after t pass op now) }
 {}

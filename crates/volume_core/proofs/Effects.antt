@@ -1,6 +1,6 @@
 -- Handles and bytes after operations that are carried out by their plans.
 use Rattle.std.proofs.Common.{◌≡◌, ◌≢◌, ℕ, ◌+◌, ◌≤◌, List, [], ◌∷◌, ◌++◌, Bool, true, false, cond, Option, None, Some, refl, sym, ap, ◌∙◌, subst, arith}
-use Rattle.std.specs.Prelude.{IsTrue, ◌==◌, ◌&&◌, ◌||◌, length, not, filter, unwrap_or}
+use Rattle.std.specs.Prelude.{IsTrue, ◌==◌, length, not, filter, unwrap_or}
 use Rattle.std.specs.Map.{remove_entry}
 use Rattle.std.specs.Ordering.{nat_cmp}
 use Rattle.std.specs.BTreeMap.{insert_entry, is_at}
@@ -14,34 +14,44 @@ use Rattle.op_frames.specs.declared.reply.Reply.TheVariants as replies
 use Rattle.plain_tree.specs.Tree as tree
 use Rattle.plain_tree.specs.Tree.{Content, Node, Tree, node_at, handle_of, change_node, with_node, with_handle, without_handle, without_node, named, touched, stamped}
 use Rattle.plain_tree.specs.Attributes.{attr_of}
-use Rattle.core_rules.specs.Built.{is_built}
-use Rattle.plain_tree.specs.Classes.{Bytes, Class, Trees, class_of, is_of_entries, is_of_inodes}
-use Rattle.plain_tree.specs.WellFormed.{IsWellFormed}
+use Rattle.plain_tree.specs.Classes.{Bytes, class_of}
+use Rattle.tree_laws.specs.Files.{copies_files}
 use Rattle.plain_tree.specs.Checks.{first_failure, node_check, file_check, hand_check}
 use Rattle.plain_tree.specs.Entries.{entry_at, add_entry, drop_entry, lives, unnamed}
 use Rattle.plain_tree.specs.Files.{inode_of}
 use Rattle.plain_tree.specs.Operations.{checks, effect, success, attr_reply, new_directory, new_file, make_checks, new_link}
-use Rattle.plain_tree.specs.Subtrees.{dropped, is_same, moved_entry}
+use Rattle.plain_tree.specs.Subtrees.{dropped, is_same, moved_entry, without_tree}
 use Rattle.plain_tree.specs.Pages.{attribute_page, directory_page, with_attribute, without_attribute}
-use Rattle.tree_laws.proofs.File.Unwritten.{KeepsFiles-effect}
 use Rattle.ref_counts.specs.Handles.{OpenHandles, HasHandles, opened, closed, closed_all}
-use Rattle.volume_core.specs.Files.{Files, HasBytes}
+use Rattle.volume_core.specs.Causes.{writes_blocks}
+use Rattle.volume_core.specs.Refusals.{IsLike}
 use Rattle.volume_core.specs.Plans.{is_by_plan, inode_opened, opened_by, closed_by}
-use Rattle.volume_core.proofs.Changed.{next_handle_kept, handles_kept, kept_bytes}
+use Rattle.volume_core.proofs.ChangedNodes.{next_handle_kept, handles_kept}
 
--- ---- bytes
+-- ---- classes
 
-no_class : (class : Class) → (is_of_inodes class || is_of_entries class) ≡ false → (op : Op) → IsTrue (is_by_plan op) → class_of op ≢ class
-no_class class neither op planned is =
-    let clash : IsTrue false =
-    subst (λ b. IsTrue (b && is_built op)) (ap (λ c. is_of_inodes c || is_of_entries c) is ∙ neither) planned in
-    cc clash
+-- what is carried out by a plan writes no bytes, and copies no files
+pub no_bytes : (op : Op) → IsTrue (is_by_plan op) → class_of op ≢ Bytes
+no_bytes (ops.Truncate inode size) planned is = cc planned
+no_bytes (ops.Read handle offset count) planned is = cc planned
+no_bytes (ops.Write handle offset bytes) planned is = cc planned
+no_bytes (ops.Fsync handle) planned is = cc planned
+no_bytes _ planned is = cc is
 
--- what is carried out by a plan writes no bytes
-pub bytes_kept : (whole : Tree) (files : Files) → IsWellFormed whole → HasBytes files whole → (pass now : ℕ) (op : Op) → IsTrue (is_by_plan op) → first_failure (checks whole pass op) ≡ None
-    → HasBytes files (effect whole pass op now)
-bytes_kept whole files well has pass now op planned passes =
-    kept_bytes files whole (effect whole pass op now) has (KeepsFiles-effect whole pass now op well.nodes (no_class Bytes refl op planned) (no_class Trees refl op planned) passes)
+pub no_copies : (op : Op) → IsTrue (is_by_plan op) → copies_files op ≡ false
+no_copies (ops.CopyTree source parent name) planned = absurd (cc planned)
+no_copies _ planned = refl
+
+-- so it writes no blocks
+pub writes_nothing : (op : Op) → IsTrue (is_by_plan op) → writes_blocks op ≡ false
+writes_nothing (ops.Truncate inode size) planned = absurd (no_bytes (ops.Truncate inode size) planned refl)
+writes_nothing (ops.Write handle offset bytes) planned = absurd (no_bytes (ops.Write handle offset bytes) planned refl)
+writes_nothing _ planned = refl
+
+-- and reads none
+pub same_like : (op : Op) → IsTrue (is_by_plan op) → (reply given : Reply) → given ≡ reply → IsLike op reply given
+same_like (ops.Read handle offset count) planned reply given same = absurd (no_bytes (ops.Read handle offset count) planned refl)
+same_like _ planned reply given same = same
 
 -- ---- changes of a node leave the handles
 
@@ -71,6 +81,11 @@ move_handles h parent name new_parent new_name now (Some inode) whole has false 
     (own_handles (λ node. touched now (record node { content = named new_name inode node.content })) new_parent cleared h
     (own_handles (λ node. touched now (record node { content = unnamed new_name node.content })) new_parent left h
     (own_handles (λ node. touched now (record node { content = unnamed name node.content })) parent whole h has))))
+
+-- and so does a tree that is removed
+uproot_handles : (h : OpenHandles) (parent : ℕ) (name : List ℕ) (now : ℕ) (inode : Option ℕ) (whole : Tree) → HasHandles h whole → HasHandles h (without_tree parent name now inode whole)
+uproot_handles h parent name now None whole has = has
+uproot_handles h parent name now (Some inode) whole has = own_handles (λ node. touched now (record node { content = unnamed name node.content })) parent whole h has
 
 -- ---- a new file
 
@@ -208,6 +223,9 @@ module _ (whole : Tree) (h : OpenHandles) (has : HasHandles h whole) (pass now :
   fulfils (ops.Rename parent name new_parent new_name) is passes =
       keeps (ops.Rename parent name new_parent new_name) refl refl
       (move_handles h parent name new_parent new_name now (entry_at whole parent name) whole has (is_same (entry_at whole new_parent new_name) (entry_at whole parent name)))
+  fulfils (ops.LockTree inode) is passes = keeps (ops.LockTree inode) refl refl has
+  fulfils (ops.RemoveTree parent name) is passes =
+      keeps (ops.RemoveTree parent name) refl refl (uproot_handles h parent name now (entry_at whole parent name) whole has)
   fulfils (ops.Open inode) is passes = record {
     hand = λ x some. open_hand whole pass inode passes;
     handles = open_handles whole pass inode now h has passes;

@@ -1,9 +1,17 @@
-pub mod Answered
-pub mod Carried
-pub mod Changed
-pub mod Effects
-pub mod Looking
-pub mod Opened
-pub mod Resized
-pub mod Standing
-pub mod Written
+mod Answered
+mod Carried
+mod Changed
+mod ChangedNodes
+mod Effects
+mod FileCalls
+mod FileChecks
+mod FileDone
+mod FileOutcomes
+mod FilesWritten
+mod LawsUsed
+mod Looking
+mod Occurring
+mod Opened
+mod Standing
+mod Successes
+mod FewerRows

@@ -1,27 +1,21 @@
 -- A core that was just opened.
-use Rattle.std.proofs.Common.{◌≡◌, ℕ, List, [], ◌∷◌, length, Bool, true, false, Option, None, Some, refl, sym, ap, ◌∙◌, subst, arith, eqb-true}
-use Rattle.std.specs.Prelude.{IsTrue, ◌==◌, ◌||◌, not, option_map, unwrap_or}
-use Rattle.std.specs.List.{list_all}
+use Rattle.std.proofs.Common.{◌≡◌, [], ◌∷◌, length, Option, Some, refl, sym, ap, ◌∙◌}
+use Rattle.std.specs.Prelude.{◌||◌, not, option_map, unwrap_or}
 use Rattle.plain_tree.specs.Tree.{Tree}
-use Rattle.plain_tree.specs.Files.{file_at}
 use Rattle.s3_rows.specs.declared.change.Change.TheVariants as changes
-use Rattle.s3_rows.specs.Rows.{Inode, Parameters}
-use Rattle.s3_rows.specs.Keyed.{has_key}
-use Rattle.s3_rows.specs.Tables.{Tables, by_inode}
-use Rattle.s3_rows.specs.Selections.{inode_at}
+use Rattle.s3_rows.specs.Rows.{Parameters}
+use Rattle.s3_rows.specs.Tables.{Tables}
 use Rattle.s3_rows.specs.Ranges.{HasRanges}
 use Rattle.s3_rows.specs.Told.{Told, one_more, with_batch}
-use Rattle.s3_rows.specs.Validity.{IsValid, is_directory, is_regular, is_below_root}
+use Rattle.s3_rows.specs.Validity.{IsValid, is_directory, is_below_root}
 use Rattle.row_lemmas.proofs.Tables.{IsOrdered-after_change, leads_to_root_same}
-use Rattle.row_lemmas.proofs.Tests.{list_all_weaker, find_passes_all}
+use Rattle.row_lemmas.proofs.Tests.{list_all_weaker}
 use Rattle.tree_rows.specs.Shapes.{shape_of_tables, Represents}
 use Rattle.tree_rows.proofs.WellFormed.Opened.{IsWellFormed_from_named}
 use Rattle.ref_counts.specs.Handles.{no_handles}
 use Rattle.volume_core.specs.declared.row_core.RowCore.{RowCore}
-use Rattle.volume_core.specs.Files.{Files, HasBytes}
 use Rattle.volume_core.specs.Opening.{AreReady, IsOpened, IsMounting, mounted}
 use Rattle.volume_core.specs.Standing.{StandsFor}
-use Rattle.volume_core.proofs.Looking.{is_file_row, file_there, no_file}
 
 -- ---- tables with other parameters
 
@@ -78,45 +72,10 @@ module _ (t : Tables) (v : IsValid t) where
   pub served_represents : (whole : Tree) → Represents t whole → Represents served whole
   served_represents whole same = shape_same ∙ same
 
--- ---- files without bytes
-
-no_bytes : (b : List ℕ) → length b ≡ 0 → [] ≡ b
-no_bytes [] is = refl
-no_bytes (x ∷ b) is = absurd (omega (arith, is))
-
-empty_files : (t : Tables) (whole : Tree) → Represents t whole → IsTrue (list_all (λ r. not (is_regular r.kind) || r.size == 0) t.inodes) → HasBytes [] whole
-empty_files t whole same empty = record { bytes = each; fresh = λ x above. refl }
-  where
-    size_of : (r : Inode) (b : Bool) → is_regular r.kind ≡ b → IsTrue (not b || r.size == 0) → b ≡ true → r.size ≡ 0
-    size_of r true kind test is = eqb-true r.size 0 test
-    size_of r false kind test is = absurd (cc is)
-
-    by_kind : (x : ℕ) (b : List ℕ) (r : Inode) → inode_at t x ≡ Some r → (c : Bool) → is_regular r.kind ≡ c → file_at whole x ≡ Some b → [] ≡ b
-    by_kind x b r there true regular is =
-        let file = file_there t whole same x r there regular in
-        let own : file.0 ≡ b = cc (sym file.1 ∙ is) in
-        let test : IsTrue (not (is_regular r.kind) || r.size == 0) = find_passes_all (has_key by_inode x) (λ y. not (is_regular y.kind) || y.size == 0) t.inodes r empty there in
-        let none : r.size ≡ 0 = size_of r true regular (ap (λ k. not k || r.size == 0) (sym regular) ∙ test) refl in
-        no_bytes file.0 (file.2 ∙ none) ∙ own
-    by_kind x b r there false other is =
-        let absent : file_at whole x ≡ None = no_file t whole same x (ap is_file_row there ∙ other) in
-        let clash : None ≡ Some b = sym absent ∙ is in
-        absurd (cc clash)
-
-    by_row : (x : ℕ) (b : List ℕ) (found : Option Inode) → inode_at t x ≡ found → file_at whole x ≡ Some b → [] ≡ b
-    by_row x b None there is =
-        let absent : file_at whole x ≡ None = no_file t whole same x (ap is_file_row there) in
-        let clash : None ≡ Some b = sym absent ∙ is in
-        absurd (cc clash)
-    by_row x b (Some r) there is = by_kind x b r there (is_regular r.kind) refl is
-
-    each : (x : ℕ) (b : List ℕ) → file_at whole x ≡ Some b → [] ≡ b
-    each x b is = by_row x b (inode_at t x) refl is
-
--- a core with the tables of a file system that is mounted, no handles and no bytes
+-- a core with the tables of a file system that is mounted, and no handles
 pub opened : {K : Type 0} (told : K → Option Told) (core : RowCore K) (s : Told) (whole : Tree) → AreReady s.tables → Represents s.tables whole → IsOpened whole → IsMounting s (told core.keeper) → HasRanges s.tables
-    → core.handles ≡ no_handles → core.files ≡ [] → StandsFor told core whole
-opened told core s whole ready same start mounting ranges handles files =
+    → core.handles ≡ no_handles → StandsFor told core whole
+opened told core s whole ready same start mounting ranges handles =
     let v : IsValid s.tables = ready.served.valid in
     let p : Parameters = mounting.0 in
     let own : Some p ≡ Some v.params = sym mounting.1 ∙ v.is_made in
@@ -127,12 +86,10 @@ opened told core s whole ready same start mounting ranges handles files =
       served = record {
         valid = served_valid s.tables v;
         unique = ready.served.unique;
-        inode_blocks = ready.served.inode_blocks;
         slots = ready.served.slots;
       };
       mounted = refl;
       represents = served_represents s.tables v whole same;
       well = IsWellFormed_from_named s.tables whole v ranges ready.named same start.1 start.0;
       handles = (start.0 ∙ ap (λ h. h.next) (sym handles), start.1 ∙ ap (λ h. h.handles) (sym handles));
-      bytes = subst (λ (f : Files). HasBytes f whole) (sym files) (empty_files s.tables whole same ready.empty);
     }

@@ -1,5 +1,6 @@
 pub mod Answers
-pub mod Files
+pub mod Backed
+pub mod Causes
 pub mod Opening
 pub mod Plans
 pub mod Refusals

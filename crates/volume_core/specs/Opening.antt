@@ -1,5 +1,5 @@
 -- When a core may be opened.
-use Rattle.std.specs.Prelude.{◌≡◌, ◌==◌, Bool, true, false, ◌||◌, not, [], ◌∷◌, IsTrue, Option, None, Some}
+use Rattle.std.specs.Prelude.{◌≡◌, ◌==◌, Bool, true, false, not, [], ◌∷◌, IsTrue, Option, None, Some}
 use Rattle.std.specs.List.{list_all}
 use Rattle.plain_tree.specs.Tree.{Tree}
 use Rattle.s3_rows.specs.declared.change.Change.TheVariants as changes
@@ -7,7 +7,6 @@ use Rattle.s3_rows.specs.declared.params.State.TheVariants as states
 use Rattle.s3_rows.specs.Rows.{Parameters}
 use Rattle.s3_rows.specs.Tables.{Tables}
 use Rattle.s3_rows.specs.Told.{Told, with_batch}
-use Rattle.s3_rows.specs.Validity.{is_regular}
 use Rattle.volume_core.specs.Standing.{AreServed}
 use Rattle.volume_core.specs.declared.row_core.OpenFault.{OpenFault}
 use Rattle.volume_core.specs.declared.row_core.OpenFault.TheVariants as faults
@@ -16,11 +15,10 @@ use Rattle.volume_core.specs.declared.row_core.OpenFault.TheVariants as faults
 abbrev pub AreNamed : Tables → Type 0
 AreNamed t = IsTrue (list_all (λ r. not (r.refcount == 0)) t.inodes)
 
--- tables whose inodes have names, since nobody has handles yet, and whose regular files are all empty, since nobody keeps their bytes
+-- tables whose inodes have names, since nobody has handles yet
 pub record AreReady (t : Tables) : Type 0 where
   pub served : AreServed t
   pub named : AreNamed t
-  pub empty : IsTrue (list_all (λ r. not (is_regular r.kind) || r.size == 0) t.inodes)
 
 -- a tree that was just opened: without handles
 abbrev pub IsOpened : Tree → Type 0

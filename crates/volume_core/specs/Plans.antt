@@ -1,22 +1,23 @@
 -- How plans are carried out.
-use Rattle.std.specs.Prelude.{◌≡◌, ◌⊎◌, ℕ, ◌^◌, Bool, true, ◌&&◌, ◌||◌, nat_le, Option, None, Some, Result, Ok, Err}
+use Rattle.std.specs.Prelude.{◌≡◌, ◌⊎◌, ℕ, ◌^◌, Bool, true, ◌||◌, nat_le, Option, None, Some, Result, Ok, Err}
 use Rattle.op_frames.specs.declared.operation.Op.{Op}
 use Rattle.op_frames.specs.declared.operation.Op.TheVariants as ops
 use Rattle.op_frames.specs.declared.reply.Reply.{Reply}
 use Rattle.op_frames.specs.declared.reply.Reply.TheVariants as replies
 use Rattle.s3_rows.specs.Told.{Told}
-use Rattle.core_rules.specs.Built.{is_built}
-use Rattle.plain_tree.specs.Classes.{class_of, is_of_inodes, is_of_entries}
+use Rattle.dir_ops.specs.Plans as dir_plans
+use Rattle.immutable_trees.specs.Plans as tree_plans
+use Rattle.inode_ops.specs.Plans as inode_plans
 use Rattle.ref_counts.specs.Handles.{OpenHandles, opened, closed, closed_all}
 use Rattle.ref_counts.specs.declared.plan.Plan.{Plan}
 use Rattle.ref_counts.specs.declared.plan.Plan.TheVariants as plans
 use Rattle.volume_core.specs.declared.refusal.Refusal.{Refusal}
-use Rattle.volume_core.specs.declared.refusal.Refusal.TheVariants.{Refused, Worn, Keeper, Memory}
+use Rattle.volume_core.specs.declared.refusal.Refusal.TheVariants.{Refused, Worn, Keeper, Link, Lost, Memory}
 use Rattle.volume_core.specs.Standing.{IsCommitted}
 
--- the operations that are carried out by their plans: those on inodes, handles and entries that are built
+-- the operations that are carried out by their plans: those on inodes, handles and entries, and those that lock and remove trees
 abbrev pub is_by_plan : Op → Bool
-is_by_plan op = (is_of_inodes (class_of op) || is_of_entries (class_of op)) && is_built op
+is_by_plan op = (inode_plans.is_planned op || dir_plans.is_planned op) || tree_plans.is_planned op
 
 -- the inode that a reply says is opened
 abbrev pub inode_opened : Reply → Option ℕ
@@ -34,6 +35,8 @@ abbrev pub IsFault : Refusal → Type 0
 IsFault (Refused errno) = ⊥
 IsFault Worn = ⊥
 IsFault Keeper = Unit {0}
+IsFault Link = ⊥
+IsFault (Lost object kept got) = ⊥
 IsFault Memory = Unit {0}
 
 -- what comes of a plan: its refusal, or its reply once its batch is committed; else nothing more is told

@@ -7,7 +7,7 @@ use Rattle.s3_rows.specs.Tables.{Tables}
 use Rattle.s3_rows.specs.Selections.{inode_at}
 use Rattle.op_checks.specs.Rows.{row_check, file_row_check, lock_row_check}
 use Rattle.volume_core.specs.declared.refusal.Refusal.{Refusal}
-use Rattle.volume_core.specs.declared.refusal.Refusal.TheVariants.{Refused, Worn, Keeper, Memory}
+use Rattle.volume_core.specs.declared.refusal.Refusal.TheVariants.{Refused, Worn, Keeper, Link, Lost, Memory}
 
 -- the checks on a file that is to be changed
 abbrev pub file_checks : Option Inode → Option ℕ
@@ -28,4 +28,15 @@ IsFound P (Ok r) = P (Ok r)
 IsFound P (Err (Refused errno)) = P (Err errno)
 IsFound P (Err Worn) = ⊥
 IsFound P (Err Keeper) = Unit {0}
+IsFound P (Err Link) = ⊥
+IsFound P (Err (Lost object kept got)) = ⊥
 IsFound P (Err Memory) = Unit {0}
+
+-- what stands in the way of the size of a block
+abbrev pub IsSizeRefusal : Refusal → Type 0
+IsSizeRefusal (Refused errno) = ⊥
+IsSizeRefusal Worn = Unit {0}
+IsSizeRefusal Keeper = Unit {0}
+IsSizeRefusal Link = ⊥
+IsSizeRefusal (Lost object kept got) = ⊥
+IsSizeRefusal Memory = Unit {0}

@@ -1,46 +1,78 @@
 //! Operations on the bytes of one file.
-ghost use Rattle.std.specs.Prelude.{◌≡◌, ◌<◌, ◌≤◌, ◌^◌, ℕ, length, IsTrue, IfOk};
+ghost use Rattle.std.specs.Prelude.{◌≡◌, ◌<◌, ◌≤◌, ◌^◌, ℕ, length, false, Option, None, IsTrue, IfOk};
+ghost use Rattle.sha2.specs.Sha256.{sha256};
 ghost use Rattle.s3_base.specs.Faults.{HasCause};
 ghost use Rattle.op_frames.specs.declared.operation.Op.TheVariants as ops;
 ghost use Rattle.plain_tree.specs.Tree.{Tree};
+ghost use Rattle.s3_devices.specs.Objects.{Objects};
 ghost use Rattle.ref_counts.specs.Plans.{is_fit};
-ghost use Rattle.plain_tree.specs.Files.{read_at};
-ghost use Rattle.s3_rows.specs.Told.{IfTold};
 ghost use Rattle.volume_core.specs.Standing.{StandsFor};
-ghost use Rattle.volume_core.specs.Refusals.{IsOutcome, has_keeper_failed};
+ghost use Rattle.volume_core.specs.Refusals.{IsOutcome, has_keeper_failed, has_link_failed};
 
 use crate::RowCore;
 use crate::refusal::Refusal;
-use crate::rows::{file_row, open_row, put_row};
+use crate::rows::{block_size_of, file_row, open_row};
+use block_steps::names_kept_keep_the_tree;
+use byte_steps::{changed_files_have_their_bytes, prepared_tables_keep_bytes};
+use core_model::{held_blocks_rest_on_their_objects, prepared_tables_stay_valid};
+use file_ops::{files_of_valid_tables, read, resize_file, write_file};
 use op_checks::{check_read_length, check_size, check_unlocked, check_write_end};
 use op_frames::Reply;
 use ref_counts::attr_of;
 use s3_base::ByteList;
+use s3_devices::Link;
 use s3_rows::{InodeRow, Keeper};
 
 impl<K: Keeper> RowCore<K> {
     /// At most `count` bytes of an open file.
-    pub(crate) fn read(
+    pub(crate) fn read<L: Link>(
         &mut self,
+        link: &mut L,
         pass: u64,
         handle: u64,
         offset: u64,
         count: u32,
     ) -> Result<Reply, Refusal>
-        ensures outcome { (whole : Tree) (now : ℕ) → StandsFor K.told self.old whole → IsOutcome K.told self.old self.new whole pass (ops.Read handle offset count) now result }
-        ensures cause { HasCause (K.faults self.old.keeper) (K.faults self.new.keeper) (has_keeper_failed result) }
+        ensures outcome { (whole : Tree) (now : ℕ) → StandsFor K.told self.old whole
+            → IsOutcome K.told self.old self.new sha256 (L.told link.old) (L.told link.new) whole pass (ops.Read handle offset count) now result }
+        ensures keeper { HasCause (K.faults self.old.keeper) (K.faults self.new.keeper) (has_keeper_failed result) }
+        ensures link { HasCause (L.faults link.old) (L.faults link.new) (has_link_failed result) }
         ensures untold { K.told self.new.keeper ≡ K.told self.old.keeper }
         ensures fit { IfOk result (λ reply. IsTrue (is_fit reply)) }
     {
         check_read_length(count)?;
         let row = open_row(&mut self.keeper, &self.handles, pass, handle)?;
-        let piece = piece_of(self.files.bytes(row.id), offset, count);
-        Ok(Reply::Bytes(ByteList::from_slice(self.alloc, piece)?))
+        let block_size = block_size_of(&mut self.keeper)?;
+        let bytes = read(
+            self.alloc,
+            &mut self.keeper,
+            link,
+            row.id,
+            row.size,
+            block_size,
+            offset,
+            count,
+        )?;
+        Ok(Reply::Bytes(bytes))
     }
 
-    /// Writes bytes into an open file. The room for them is made first, and goes again where the row is not committed.
-    pub(crate) fn write(
+    /// Answers once the bytes of an open file are stored: they are, since all is written through.
+    pub(crate) fn fsync(&mut self, pass: u64, handle: u64) -> Result<Reply, Refusal>
+        ensures outcome { (whole : Tree) (now : ℕ) (objects : Option Objects) → StandsFor K.told self.old whole
+            → IsOutcome K.told self.old self.new sha256 objects objects whole pass (ops.Fsync handle) now result }
+        ensures keeper { HasCause (K.faults self.old.keeper) (K.faults self.new.keeper) (has_keeper_failed result) }
+        ensures link { has_link_failed result ≡ false }
+        ensures untold { K.told self.new.keeper ≡ K.told self.old.keeper }
+        ensures fit { IfOk result (λ reply. IsTrue (is_fit reply)) }
+    {
+        open_row(&mut self.keeper, &self.handles, pass, handle)?;
+        Ok(Reply::Done)
+    }
+
+    /// Writes bytes into an open file.
+    pub(crate) fn write<L: Link>(
         &mut self,
+        link: &mut L,
         pass: u64,
         handle: u64,
         offset: u64,
@@ -49,73 +81,80 @@ impl<K: Keeper> RowCore<K> {
     ) -> Result<Reply, Refusal>
         requires now { now < 2 ^ 62 }
         requires short { length bytes.now ≤ 131072 }
-        ensures outcome { (whole : Tree) → StandsFor K.told self.old whole → IsOutcome K.told self.old self.new whole pass (ops.Write handle offset bytes.now) now result }
-        ensures cause { HasCause (K.faults self.old.keeper) (K.faults self.new.keeper) (has_keeper_failed result) }
+        ensures outcome { (whole : Tree) → StandsFor K.told self.old whole
+            → IsOutcome K.told self.old self.new sha256 (L.told link.old) (L.told link.new) whole pass (ops.Write handle offset bytes.now) now result }
+        ensures keeper { HasCause (K.faults self.old.keeper) (K.faults self.new.keeper) (has_keeper_failed result) }
+        ensures link { HasCause (L.faults link.old) (L.faults link.new) (has_link_failed result) }
         ensures untold { K.told self.old.keeper ≡ None → K.told self.new.keeper ≡ None }
         ensures fit { IfOk result (λ reply. IsTrue (is_fit reply)) }
     {
+        prepared_tables_stay_valid();
+        prepared_tables_keep_bytes();
+        held_blocks_rest_on_their_objects();
+        names_kept_keep_the_tree();
+        changed_files_have_their_bytes();
+        files_of_valid_tables();
         let row = open_row(&mut self.keeper, &self.handles, pass, handle)?;
         check_unlocked(&row)?;
         check_write_end(offset, bytes)?;
         if bytes.is_empty() {
             return Ok(Reply::Count(0));
         }
-        let end = offset + bytes.len() as u64;
-        let new = InodeRow {
-            size: row.size.max(end),
-            mtime: now,
-            ctime: now,
-            ..row
-        };
-        self.files.grow(row.id, end as usize)?;
-        match put_row(self.alloc, &mut self.keeper, &new) {
-            Ok(()) => {
-                self.files
-                    .replace(row.id, offset as usize, bytes.as_slice());
-                Ok(Reply::Count(bytes.len() as u32))
-            }
-            Err(fault) => {
-                self.files.cut(row.id, row.size as usize);
-                Err(fault.into())
-            }
-        }
+        let block_size = block_size_of(&mut self.keeper)?;
+        let batch = write_file(
+            self.alloc,
+            &mut self.keeper,
+            link,
+            &row,
+            block_size,
+            offset,
+            bytes.as_slice(),
+            now,
+        )?;
+        self.keeper.commit(&batch)?;
+        Ok(Reply::Count(bytes.len() as u32))
     }
 
     /// Cuts a file, or lengthens it with zeros.
-    pub(crate) fn truncate(&mut self, inode: u64, size: u64, now: u64) -> Result<Reply, Refusal>
+    pub(crate) fn truncate<L: Link>(
+        &mut self,
+        link: &mut L,
+        inode: u64,
+        size: u64,
+        now: u64,
+    ) -> Result<Reply, Refusal>
         requires now { now < 2 ^ 62 }
-        ensures outcome { (whole : Tree) (pass : ℕ) → StandsFor K.told self.old whole → IsOutcome K.told self.old self.new whole pass (ops.Truncate inode size) now result }
-        ensures cause { HasCause (K.faults self.old.keeper) (K.faults self.new.keeper) (has_keeper_failed result) }
+        ensures outcome { (whole : Tree) (pass : ℕ) → StandsFor K.told self.old whole
+            → IsOutcome K.told self.old self.new sha256 (L.told link.old) (L.told link.new) whole pass (ops.Truncate inode size) now result }
+        ensures keeper { HasCause (K.faults self.old.keeper) (K.faults self.new.keeper) (has_keeper_failed result) }
+        ensures link { HasCause (L.faults link.old) (L.faults link.new) (has_link_failed result) }
         ensures untold { K.told self.old.keeper ≡ None → K.told self.new.keeper ≡ None }
         ensures fit { IfOk result (λ reply. IsTrue (is_fit reply)) }
     {
+        prepared_tables_stay_valid();
+        prepared_tables_keep_bytes();
+        held_blocks_rest_on_their_objects();
+        names_kept_keep_the_tree();
+        changed_files_have_their_bytes();
+        files_of_valid_tables();
         let row = file_row(&mut self.keeper, inode)?;
         check_size(size)?;
-        let new = InodeRow {
+        let block_size = block_size_of(&mut self.keeper)?;
+        let batch = resize_file(
+            self.alloc,
+            &mut self.keeper,
+            link,
+            &row,
+            block_size,
+            size,
+            now,
+        )?;
+        self.keeper.commit(&batch)?;
+        Ok(Reply::Attr(attr_of(&InodeRow {
             size,
             mtime: now,
             ctime: now,
             ..row
-        };
-        self.files.grow(row.id, size as usize)?;
-        match put_row(self.alloc, &mut self.keeper, &new) {
-            Ok(()) => {
-                self.files.cut(row.id, size as usize);
-                Ok(Reply::Attr(attr_of(&new)))
-            }
-            Err(fault) => {
-                self.files.cut(row.id, row.size as usize);
-                Err(fault.into())
-            }
-        }
+        })))
     }
-}
-
-/// At most `count` bytes from the offset on.
-fn piece_of(bytes: &[u8], offset: u64, count: u32) -> &[u8]
-    ensures { result.now ≡ read_at offset count bytes.now }
-{
-    let start = (offset.min(bytes.len() as u64)) as usize;
-    let rest = &bytes[start..];
-    &rest[..rest.len().min(count as usize)]
 }

@@ -1,10 +1,8 @@
-//! The core of the file system: names, attributes and lengths of files are rows behind a keeper, and open handles and the bytes
-//! of files lie in memory.
+//! The core of the file system: names, attributes, lengths and places of files are rows behind a keeper, their bytes lie as blocks
+//! behind a link, and open handles in memory.
 #![tactic(auto)]
 
-mod bytes;
 mod data;
-mod files;
 mod laws;
 mod opening;
 mod operations;

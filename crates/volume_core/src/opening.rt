@@ -9,7 +9,6 @@ ghost use Rattle.tree_rows.specs.Shapes.{Represents};
 ghost use Rattle.volume_core.specs.Opening.{AreReady, IsOpened, IsCauseOf, IsMounting, is_keeper_fault};
 ghost use Rattle.volume_core.specs.Standing.{StandsFor};
 
-use crate::files::Files;
 use crate::{OpenFault, RowCore};
 use ref_counts::Handles;
 use s3_rows::{Batch, Change, Keeper, KeeperFault, Params, State};
@@ -51,7 +50,6 @@ impl<K: Keeper> RowCore<K> {
                 alloc,
                 keeper,
                 handles: Handles::new(alloc),
-                files: Files::new(alloc),
             }),
             Err(fault) => Err((keeper, fault)),
         }

@@ -1,22 +1,27 @@
 //! The operations that are built, each by its plan.
-ghost use Rattle.std.specs.Prelude.{◌≡◌, ◌<◌, ◌^◌, false, None, Err, IsTrue, IfOk};
+ghost use Rattle.std.specs.Prelude.{◌≡◌, ◌<◌, ◌^◌, false, Option, None, Err, IsTrue, IfOk};
+ghost use Rattle.sha2.specs.Sha256.{sha256};
+ghost use Rattle.s3_devices.specs.Objects.{Objects};
 ghost use Rattle.s3_base.specs.Faults.{HasCause};
 ghost use Rattle.op_frames.specs.Operations.{is_op};
 ghost use Rattle.plain_tree.specs.Tree.{Tree};
 ghost use Rattle.dir_ops.specs.Plans as dir_plans;
+ghost use Rattle.immutable_trees.specs.Plans as tree_plans;
 ghost use Rattle.inode_ops.specs.Plans as inode_plans;
 ghost use Rattle.ref_counts.specs.Plans.{HasFitReply, is_fit};
 ghost use Rattle.core_rules.specs.Built.{is_built};
 ghost use Rattle.volume_core.specs.Plans.{IsTaken, IsOpening, IsFulfilled, inode_opened, inode_of_plan, closed_by};
-ghost use Rattle.volume_core.specs.Refusals.{IsOutcome, has_keeper_failed};
+ghost use Rattle.volume_core.specs.Refusals.{IsOutcome, has_keeper_failed, has_link_failed};
 ghost use Rattle.volume_core.specs.Standing.{StandsFor};
 
 use crate::RowCore;
 use crate::refusal::Refusal;
 use crate::rows::commit;
+use byte_steps::operations_on_names_keep_bytes;
 use op_frames::{Op, Reply};
 use ref_counts::{Handle, Handles, Plan};
 use s3_base::Errno;
+use s3_devices::Link;
 use s3_rows::Keeper;
 
 /// Commits what a plan says, and gives its reply.
@@ -25,6 +30,7 @@ fn take<K: Keeper>(keeper: &mut K, plan: Plan) -> Result<Reply, Refusal>
     ensures taken { IsTaken plan (K.told keeper.old) (K.told keeper.new) result }
     ensures untold { K.told keeper.old ≡ None → K.told keeper.new ≡ None }
     ensures cause { HasCause (K.faults keeper.old) (K.faults keeper.new) (has_keeper_failed result) }
+    ensures link { has_link_failed result ≡ false }
     ensures fit { IfOk result (λ reply. IsTrue (is_fit reply)) }
 {
     match plan {
@@ -68,6 +74,7 @@ fn open_as_planned<K: Keeper>(
     requires fit { HasFitReply plan }
     ensures opening { IsOpening plan pass (K.told keeper.old) (K.told keeper.new) handles.old handles.new result }
     ensures cause { HasCause (K.faults keeper.old) (K.faults keeper.new) (has_keeper_failed result) }
+    ensures link { has_link_failed result ≡ false }
     ensures untold { K.told keeper.old ≡ None → K.told keeper.new ≡ None }
     ensures fit { IfOk result (λ reply. IsTrue (is_fit reply)) }
 {
@@ -107,6 +114,7 @@ fn fulfil<K: Keeper>(
     requires fit { HasFitReply plan }
     ensures fulfilled { IsFulfilled plan pass op.now (K.told keeper.old) (K.told keeper.new) handles.old handles.new result }
     ensures cause { HasCause (K.faults keeper.old) (K.faults keeper.new) (has_keeper_failed result) }
+    ensures link { has_link_failed result ≡ false }
     ensures untold { K.told keeper.old ≡ None → K.told keeper.new ≡ None }
     ensures fit { IfOk result (λ reply. IsTrue (is_fit reply)) }
 {
@@ -116,13 +124,21 @@ fn fulfil<K: Keeper>(
 }
 
 impl<K: Keeper> RowCore<K> {
-    /// Carries out an operation of a pass, or says why not; then all is as before.
-    pub(crate) fn carry_out(&mut self, pass: u64, op: &Op, now: u64) -> Result<Reply, Refusal>
+    /// Carries out an operation of a pass, or says why not; then the tree is as before.
+    pub(crate) fn carry_out<L: Link>(
+        &mut self,
+        link: &mut L,
+        pass: u64,
+        op: &Op,
+        now: u64,
+    ) -> Result<Reply, Refusal>
         requires op { IsTrue (is_op op.now) }
         requires now { now < 2 ^ 62 }
-        ensures built { IsTrue (is_built op.now) → (whole : Tree) → StandsFor K.told self.old whole → IsOutcome K.told self.old self.new whole pass op.now now result }
-        ensures unbuilt { is_built op.now ≡ false → (result ≡ Err (Refusal.Refused (record { 0 = 38 }))) × (self.new ≡ self.old) }
-        ensures cause { HasCause (K.faults self.old.keeper) (K.faults self.new.keeper) (has_keeper_failed result) }
+        ensures built { IsTrue (is_built op.now) → (whole : Tree) → StandsFor K.told self.old whole
+            → IsOutcome K.told self.old self.new sha256 (L.told link.old) (L.told link.new) whole pass op.now now result }
+        ensures unbuilt { is_built op.now ≡ false → (result ≡ Err (Refusal.Refused (record { 0 = 38 }))) × (self.new ≡ self.old) × (L.told link.new ≡ L.told link.old) }
+        ensures keeper { HasCause (K.faults self.old.keeper) (K.faults self.new.keeper) (has_keeper_failed result) }
+        ensures link { HasCause (L.faults link.old) (L.faults link.new) (has_link_failed result) }
         ensures untold { K.told self.old.keeper ≡ None → K.told self.new.keeper ≡ None }
         ensures fit { IfOk result (λ reply. IsTrue (is_fit reply)) }
     {
@@ -149,17 +165,19 @@ impl<K: Keeper> RowCore<K> {
             | Op::Rename { .. }
             | Op::Link { .. }
             | Op::Readdir { .. } => { self.on_entries(pass, op, now) }
-            Op::Truncate { inode, size } => self.truncate(*inode, *size, now),
+            Op::Truncate { inode, size } => self.truncate(link, *inode, *size, now),
             Op::Read {
                 handle,
                 offset,
                 length,
-            } => self.read(pass, *handle, *offset, *length),
+            } => self.read(link, pass, *handle, *offset, *length),
             Op::Write {
                 handle,
                 offset,
                 bytes,
-            } => self.write(pass, *handle, *offset, bytes, now),
+            } => self.write(link, pass, *handle, *offset, bytes, now),
+            Op::Fsync { handle } => self.fsync(pass, *handle),
+            Op::LockTree { .. } | Op::RemoveTree { .. } => self.on_trees(pass, op, now),
             _ => Err(Refusal::Refused(Errno::ENOSYS)),
         }
     }
@@ -168,11 +186,13 @@ impl<K: Keeper> RowCore<K> {
     fn on_inodes(&mut self, pass: u64, op: &Op, now: u64) -> Result<Reply, Refusal>
         requires op { IsTrue (inode_plans.is_planned op.now) }
         requires now { now < 2 ^ 62 }
-        ensures outcome { (whole : Tree) → StandsFor K.told self.old whole → IsOutcome K.told self.old self.new whole pass op.now now result }
-        ensures cause { HasCause (K.faults self.old.keeper) (K.faults self.new.keeper) (has_keeper_failed result) }
+        ensures outcome { (whole : Tree) (objects : Option Objects) → StandsFor K.told self.old whole → IsOutcome K.told self.old self.new sha256 objects objects whole pass op.now now result }
+        ensures keeper { HasCause (K.faults self.old.keeper) (K.faults self.new.keeper) (has_keeper_failed result) }
+        ensures link { has_link_failed result ≡ false }
         ensures untold { K.told self.old.keeper ≡ None → K.told self.new.keeper ≡ None }
         ensures fit { IfOk result (λ reply. IsTrue (is_fit reply)) }
     {
+        operations_on_names_keep_bytes();
         let plan = inode_ops::plan(self.alloc, &mut self.keeper, &self.handles, pass, op, now)?;
         fulfil(&mut self.keeper, &mut self.handles, pass, op, plan)
     }
@@ -181,12 +201,36 @@ impl<K: Keeper> RowCore<K> {
     fn on_entries(&mut self, pass: u64, op: &Op, now: u64) -> Result<Reply, Refusal>
         requires op { IsTrue (dir_plans.is_planned op.now) }
         requires now { now < 2 ^ 62 }
-        ensures outcome { (whole : Tree) → StandsFor K.told self.old whole → IsOutcome K.told self.old self.new whole pass op.now now result }
-        ensures cause { HasCause (K.faults self.old.keeper) (K.faults self.new.keeper) (has_keeper_failed result) }
+        ensures outcome { (whole : Tree) (objects : Option Objects) → StandsFor K.told self.old whole → IsOutcome K.told self.old self.new sha256 objects objects whole pass op.now now result }
+        ensures keeper { HasCause (K.faults self.old.keeper) (K.faults self.new.keeper) (has_keeper_failed result) }
+        ensures link { has_link_failed result ≡ false }
         ensures untold { K.told self.old.keeper ≡ None → K.told self.new.keeper ≡ None }
         ensures fit { IfOk result (λ reply. IsTrue (is_fit reply)) }
     {
+        operations_on_names_keep_bytes();
         let plan = dir_ops::plan(self.alloc, &mut self.keeper, &self.handles, pass, op, now)?;
+        fulfil(&mut self.keeper, &mut self.handles, pass, op, plan)
+    }
+
+    /// Carries out an operation that locks or removes a tree, by its plan.
+    fn on_trees(&mut self, pass: u64, op: &Op, now: u64) -> Result<Reply, Refusal>
+        requires op { IsTrue (tree_plans.is_planned op.now) }
+        requires now { now < 2 ^ 62 }
+        ensures outcome { (whole : Tree) (objects : Option Objects) → StandsFor K.told self.old whole → IsOutcome K.told self.old self.new sha256 objects objects whole pass op.now now result }
+        ensures keeper { HasCause (K.faults self.old.keeper) (K.faults self.new.keeper) (has_keeper_failed result) }
+        ensures link { has_link_failed result ≡ false }
+        ensures untold { K.told self.old.keeper ≡ None → K.told self.new.keeper ≡ None }
+        ensures fit { IfOk result (λ reply. IsTrue (is_fit reply)) }
+    {
+        operations_on_names_keep_bytes();
+        let plan = immutable_trees::plan(
+            self.alloc,
+            &mut self.keeper,
+            &self.handles,
+            pass,
+            op,
+            now,
+        )?;
         fulfil(&mut self.keeper, &mut self.handles, pass, op, plan)
     }
 }

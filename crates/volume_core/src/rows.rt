@@ -1,21 +1,22 @@
-//! Rows of files, read from the keeper and put into it.
-ghost use Rattle.std.specs.Prelude.{◌≡◌, ◌∷◌, [], option_map, OnOk, OnErr};
+//! Rows of files, read from the keeper, and batches that are committed.
+ghost use Rattle.std.specs.Prelude.{◌≡◌, ◌≤◌, false, None, Some, OnOk, OnErr, IfOk, IfErr};
 ghost use Rattle.s3_base.specs.Faults.{HasCause};
-ghost use Rattle.s3_rows.specs.declared.change.Change.TheVariants as changes;
+ghost use Rattle.s3_rows.specs.Ranges.{HasRanges};
+ghost use Rattle.s3_rows.specs.Rows.{Parameters};
 ghost use Rattle.s3_rows.specs.Selections.{inode_at};
-ghost use Rattle.s3_rows.specs.Told.{IfTold, has_failed, with_batch};
+ghost use Rattle.s3_rows.specs.Told.{IfTold, has_failed};
 ghost use Rattle.op_checks.specs.Rows.{open_row_check};
 ghost use Rattle.ref_counts.specs.Handles.{inode_open};
-ghost use Rattle.volume_core.specs.Refusals.{has_keeper_failed};
+ghost use Rattle.volume_core.specs.Refusals.{has_keeper_failed, has_link_failed};
 ghost use Rattle.volume_core.specs.Standing.{IsCommitted};
-ghost use Rattle.volume_core.specs.Rows.{IsCheckedRow, IsFound, file_checks, row_of};
+ghost use Rattle.volume_core.specs.Rows.{IsCheckedRow, IsFound, IsSizeRefusal, file_checks, row_of};
+ghost use Rattle.volume_core.specs.declared.refusal.Refusal.TheVariants.{Worn};
 
 use crate::refusal::Refusal;
 use op_checks::{check_file, check_node, check_open, check_unlocked};
 use ref_counts::Handles;
 use s3_base::Errno;
-use s3_rows::{Batch, Change, InodeRow, Keeper, KeeperFault};
-use std::alloc::Global;
+use s3_rows::{Batch, InodeRow, Keeper, KeeperFault};
 
 /// The row of a regular file that may be changed.
 fn changeable(found: Option<InodeRow>) -> Result<InodeRow, Errno>
@@ -37,6 +38,7 @@ fn readable(found: Option<InodeRow>) -> Result<InodeRow, Errno>
 /// The row of a regular file that is not locked.
 pub fn file_row<K: Keeper>(keeper: &mut K, inode: u64) -> Result<InodeRow, Refusal>
     ensures row { IfTold (K.told keeper.old) (λ t. IsFound (IsCheckedRow file_checks (inode_at t inode)) result) }
+    ensures link { has_link_failed result ≡ false }
     ensures same { K.told keeper.new ≡ K.told keeper.old }
     ensures cause { HasCause (K.faults keeper.old) (K.faults keeper.new) (has_keeper_failed result) }
 {
@@ -52,6 +54,7 @@ pub fn open_row<K: Keeper>(
     handle: u64,
 ) -> Result<InodeRow, Refusal>
     ensures row { IfTold (K.told keeper.old) (λ t. IsFound (IsCheckedRow open_row_check (row_of t (inode_open handles.now pass handle))) result) }
+    ensures link { has_link_failed result ≡ false }
     ensures same { K.told keeper.new ≡ K.told keeper.old }
     ensures cause { HasCause (K.faults keeper.old) (K.faults keeper.new) (has_keeper_failed result) }
 {
@@ -72,13 +75,19 @@ pub fn commit<K: Keeper>(keeper: &mut K, batch: &Batch) -> Result<(), KeeperFaul
     keeper.commit(batch)
 }
 
-/// Commits a row in place of the row of its inode.
-pub fn put_row<K: Keeper>(alloc: Global, keeper: &mut K, row: &InodeRow) -> Result<(), KeeperFault>
-    ensures ok { OnOk result (K.told keeper.new ≡ option_map (with_batch (changes.PutInode row.now ∷ [])) (K.told keeper.old)) }
-    ensures err { OnErr result (K.told keeper.new ≡ K.told keeper.old) }
-    ensures cause { HasCause (K.faults keeper.old) (K.faults keeper.new) (has_failed result) }
+/// The size of a block in bytes. A keeper without parameters is of no file system.
+pub fn block_size_of<K: Keeper>(keeper: &mut K) -> Result<u32, Refusal>
+    ensures size { IfOk result (λ n. IfTold (K.told keeper.old) (λ t. (p : Parameters) × (t.params ≡ Some p) × (p.block_size ≡ n))) }
+    ensures ranges { IfOk result (λ n. IfTold (K.told keeper.old) HasRanges) }
+    ensures least { IfOk result (λ n. 4096 ≤ n) }
+    ensures greatest { IfOk result (λ n. n ≤ 10485760) }
+    ensures there { IfTold (K.told keeper.old) (λ t. IfErr result (λ refusal. refusal ≡ Worn → t.params ≡ None)) }
+    ensures refused { IfErr result (λ refusal. IsSizeRefusal refusal) }
+    ensures same { K.told keeper.new ≡ K.told keeper.old }
+    ensures cause { HasCause (K.faults keeper.old) (K.faults keeper.new) (has_keeper_failed result) }
 {
-    let mut batch = Batch::new(alloc);
-    batch.push(Change::PutInode(*row))?;
-    keeper.commit(&batch)
+    match keeper.params()? {
+        Some(params) => Ok(params.block_size),
+        None => Err(Refusal::Worn),
+    }
 }

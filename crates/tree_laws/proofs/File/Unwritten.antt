@@ -8,14 +8,14 @@ use Rattle.std.specs.Prelude.{◌==◌, ◌&&◌, filter, not, option_and_then, 
 use Rattle.op_frames.specs.declared.operation.Op.{Op}
 use Rattle.plain_tree.specs.Below.{at_and_below, is_among}
 use Rattle.plain_tree.specs.Checks.{first_failure}
-use Rattle.plain_tree.specs.Classes.{Bytes, Trees, class_of}
+use Rattle.plain_tree.specs.Classes.{Bytes, class_of}
 use Rattle.plain_tree.specs.Entries.{is_directory, lives, unnamed}
 use Rattle.plain_tree.specs.Files.{bytes_of, file_at}
 use Rattle.plain_tree.specs.Numbers.{InOrder}
 use Rattle.plain_tree.specs.Operations.{checks, effect, tree_after}
 use Rattle.plain_tree.specs.Subtrees.{left_over, with_lock, without_directories}
 use Rattle.plain_tree.specs.Tree.{Content, Regular, Directory, Link, Node, Tree, change_node, named, node_at, stamped, with_node, without_node}
-use Rattle.tree_laws.specs.Files.{KeepsFiles}
+use Rattle.tree_laws.specs.Files.{KeepsFiles, copies_files}
 use Rattle.tree_laws.proofs.File.Alone.{changes_found}
 use Rattle.tree_laws.proofs.Node.Keys.{lookup-remove_entry_other, numbers_tell, same_number}
 use Rattle.tree_laws.proofs.Node.Order.{order_walk}
@@ -128,7 +128,7 @@ if_kept false found b is = absurd (cc is)
 
 -- ---- the operations
 
-unwritten_walk : (before : Tree) (now : ℕ) (op : Op) → class_of op ≢ Bytes → class_of op ≢ Trees → Walk before now op (λ a b. InOrder a → InOrder b × KeepsFiles a b)
+unwritten_walk : (before : Tree) (now : ℕ) (op : Op) → class_of op ≢ Bytes → copies_files op ≡ false → Walk before now op (λ a b. InOrder a → InOrder b × KeepsFiles a b)
 unwritten_walk before now op writes_none copies_none =
     let order : Walk before now op (λ a b. InOrder a → InOrder b) = order_walk before now op in
     record {
@@ -143,7 +143,9 @@ unwritten_walk before now op writes_none copies_none =
       makes = λ new t begins fits ordered. (order.makes new t begins fits ordered, KeepsFiles-with_node now new t);
       opens = λ handle t fits ordered. (ordered, KeepsFiles-same t _ (omega arith) (λ x b is. is));
       closes = λ number t ordered. (ordered, KeepsFiles-same t _ (omega arith) (λ x b is. is));
-      copies = λ source t of_trees fits. absurd (copies_none of_trees);
+      copies = λ source t copied fits.
+          let clash : true ≡ false = sym copied ∙ copies_none in
+          absurd (cc clash);
       locks = λ x t ordered. (order.locks x t ordered, KeepsFiles-with_lock x t);
       uproots = λ below t ordered.
           let without : Tree = without_directories below t in (
@@ -159,10 +161,10 @@ unwritten_walk before now op writes_none copies_none =
           );
     }
 
-pub KeepsFiles-effect : (t : Tree) (pass now : ℕ) (op : Op) → InOrder t → class_of op ≢ Bytes → class_of op ≢ Trees → first_failure (checks t pass op) ≡ None → KeepsFiles t (effect t pass op now)
+pub KeepsFiles-effect : (t : Tree) (pass now : ℕ) (op : Op) → InOrder t → class_of op ≢ Bytes → copies_files op ≡ false → first_failure (checks t pass op) ≡ None → KeepsFiles t (effect t pass op now)
 KeepsFiles-effect t pass now op ordered writes_none copies_none passes =
     (effects-effect t pass now op (λ b. InOrder t → InOrder b × KeepsFiles t b) (effects_by_walk t pass now op (λ a b. InOrder a → InOrder b × KeepsFiles a b) (unwritten_walk t now op writes_none copies_none)) passes ordered).1
 
-pub KeepsFiles-tree_after : (t : Tree) (pass now : ℕ) (op : Op) → InOrder t → class_of op ≢ Bytes → class_of op ≢ Trees → KeepsFiles t (tree_after t pass op now)
+pub KeepsFiles-tree_after : (t : Tree) (pass now : ℕ) (op : Op) → InOrder t → class_of op ≢ Bytes → copies_files op ≡ false → KeepsFiles t (tree_after t pass op now)
 KeepsFiles-tree_after t pass now op ordered writes_none copies_none =
     after_call (KeepsFiles t) t pass now op (KeepsFiles-refl t) (KeepsFiles-effect t pass now op ordered writes_none copies_none)

@@ -1,5 +1,5 @@
 -- Every operation, by what it does to the tree: the larger changes, and the primitive changes that these consist of.
-use Rattle.std.proofs.Common.{◌≡◌, ◌≤◌, ℕ, ◌+◌, ◌^◌, List, ◌++◌, Option, None, Some, refl, length}
+use Rattle.std.proofs.Common.{◌≡◌, ◌≤◌, ℕ, ◌+◌, ◌^◌, List, ◌++◌, true, Option, None, Some, refl, length}
 use Rattle.std.proofs.lemmas.Bool.{cond_both}
 use Rattle.std.specs.List.{filter_map}
 use Rattle.std.specs.Prelude.{◌==◌, unwrap_or}
@@ -7,12 +7,12 @@ use Rattle.op_frames.specs.declared.operation.Op.{Op}
 use Rattle.op_frames.specs.declared.operation.Op.TheVariants as ops
 use Rattle.plain_tree.specs.Below.{at_and_below}
 use Rattle.plain_tree.specs.Checks.{first_failure, node_check, file_check, open_check}
-use Rattle.plain_tree.specs.Classes.{Trees, class_of}
 use Rattle.plain_tree.specs.Entries.{entry_at, lives, settled, add_entry, drop_entry}
 use Rattle.plain_tree.specs.Files.{open_file, inode_of}
 use Rattle.plain_tree.specs.Operations.{checks, effect, new_file, with_new_file, with_new_node}
 use Rattle.plain_tree.specs.Subtrees.{is_same, dropped, moved_entry, copies, with_copy, with_lock, left_over, without_directories, without_tree, without_pass}
 use Rattle.plain_tree.specs.Tree.{Handle, Tree, node_at, handle_of, change_node, without_node, with_node, with_handle, without_handle, stamped}
+use Rattle.tree_laws.specs.Files.{copies_files}
 use Rattle.tree_laws.proofs.Walk.Edits.{Edit, Stamp, Mode, Owner, Mtime, Resize, Write, Attribute, NoAttribute, Entry, NoEntry, edited, Fits, IsAllowed, IsOf, SparesEntries, NewNode, File, Folder, Symlink, built, Begins}
 use Rattle.tree_laws.proofs.Walk.Passed.{CanMake, CanUnlink, CanUnmake, CanUproot, CanLink, CanMove, CanCopy, all_pass, mode_fits, time_fits, size_fits, end_fits, hand_fits, can_mkdir, can_create, can_symlink, can_unlink, can_unmake, can_uproot, can_link, can_move, can_copy}
 
@@ -31,7 +31,7 @@ pub record Effects (t : Tree) (pass now : ℕ) (op : Op) (P : Tree → Type 0) :
   pub moves : (p : ℕ) (n : List ℕ) (np : ℕ) (nn : List ℕ) → CanMove t p n np nn → P (moved_entry p n np nn now (entry_at t p n) t)
   pub opens : (x : ℕ) → node_check (node_at t x) ≡ None → file_check (node_at t x) ≡ None → t.next_handle + 1 ≤ 2 ^ 62 → P (with_handle (record { inode = x; pass = pass }) t)
   pub closes : (number : ℕ) → open_check (open_file t pass number) ≡ None → P (settled (inode_of (handle_of t pass number)) (without_handle number t))
-  pub copies : (source p : ℕ) (n : List ℕ) → class_of op ≡ Trees → CanCopy t source p n → P (with_copy source p n now t)
+  pub copies : (source p : ℕ) (n : List ℕ) → copies_files op ≡ true → CanCopy t source p n → P (with_copy source p n now t)
   pub locks : (x : ℕ) → P (with_lock x t)
   pub uproots : (p : ℕ) (n : List ℕ) → op ≡ ops.RemoveTree p n → CanUproot t p n → P (without_tree p n now (entry_at t p n) t)
   pub leaves : P (without_pass pass t)
@@ -98,7 +98,7 @@ pub record Walk (before : Tree) (now : ℕ) (op : Op) (R : Tree → Tree → Typ
   pub makes : (new : NewNode) (t : Tree) → Begins new → t.next_inode + 1 ≤ 2 ^ 62 → R t (with_node (built now new) t)
   pub opens : (handle : Handle) (t : Tree) → t.next_handle + 1 ≤ 2 ^ 62 → R t (with_handle handle t)
   pub closes : (number : ℕ) (t : Tree) → R t (without_handle number t)
-  pub copies : (source : ℕ) (t : Tree) → class_of op ≡ Trees → t.next_inode + length (at_and_below t source) ≤ 2 ^ 62
+  pub copies : (source : ℕ) (t : Tree) → copies_files op ≡ true → t.next_inode + length (at_and_below t source) ≤ 2 ^ 62
       → R t (record t { next_inode = t.next_inode + length (at_and_below t source); nodes = t.nodes ++ copies t (at_and_below t source) now (at_and_below t source) })
   pub locks : (x : ℕ) (t : Tree) → R t (with_lock x t)
   pub uproots : (below : List ℕ) (t : Tree) → R t (record t { nodes = filter_map (left_over (without_directories below t) below now) t.nodes })

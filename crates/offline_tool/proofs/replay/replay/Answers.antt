@@ -1,8 +1,8 @@
 use Rattle.std.proofs.Common.{◌∙◌, [], refl, sym, subst, arith, inl, inr, ⊎_elim}
 use Rattle.op_frames.specs.Replay.{Verdict}
-use Rattle.plain_tree.specs.Tree.{made_tree}
 use Rattle.offline_tool.specs.Output.{HasVerdict}
-use Rattle.offline_tool.proofs.Turn.{not_begun, begins, nothing_more}
+use Rattle.offline_tool.proofs.Runs.{begins}
+use Rattle.offline_tool.proofs.Turn.{not_begun, nothing_more}
 use Rattle.offline_tool.proofs.replay.replay.Goals as goal
 
 pub returns-in_default-clause-output : goal.returns-in_default-clause-output
@@ -18,7 +18,7 @@ loop-behind-init g c = record {
   source_later = omega arith;
   sink_later = omega arith;
   verdict = λ s told. (s, told, refl);
-  output = λ s before told is. (s, [], told, nothing_more before _ is, made_tree c.args.limits.now.block_size 0, c.in-Ok.ensures, begins c.args.limits.now.block_size s.left);
+  output = λ s before told is. (s, [], told, nothing_more before _ is, begins c.args.limits.now.block_size s.left _ c.in-Ok.ensures);
 }
 
 pub loop-behind-preserved : goal.loop-behind-preserved
@@ -35,8 +35,7 @@ loop-behind-preserved g c =
           (now.0, now.1, was.2 ∙ now.2);
       output = λ s before told is.
           let was = i.output s before told is in
-          let now = c.in-On.ensures.output was.0 c.args.limits.now.block_size s.left before was.1 was.4 was.2 was.3 was.5 was.6 in
-          (now.0, now.1, now.3, now.4, now.2, now.5, now.6);
+          c.in-On.ensures.output was.0 c.args.limits.now.block_size s.left before was.1 was.2 was.3 was.4;
     }
 
 pub returns-in-End-clause-fault : goal.returns-in-End-clause-fault
@@ -50,4 +49,4 @@ returns-in-End-clause-verdict g c = λ s told.
 pub returns-in-End-clause-output : goal.returns-in-End-clause-output
 returns-in-End-clause-output g c = λ s before told is.
     let i = c.loop-behind.invariant.output s before told is in
-    c.in-End.ensures.output i.0 c.args.limits.now.block_size s.left before i.1 i.4 i.2 i.3 i.5 i.6
+    c.in-End.ensures.output i.0 c.args.limits.now.block_size s.left before i.1 i.2 i.3 i.4

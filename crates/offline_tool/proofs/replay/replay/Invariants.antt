@@ -2,12 +2,10 @@ use Rattle.std.proofs.Common.{◌≡◌, ◌+◌, ◌-◌, ◌^◌, ◌≤◌, �
 use Rattle.s3_base.specs.Stream.{Stream}
 use Rattle.op_frames.specs.Replay.{replay_of}
 use Rattle.offline_tool.specs.Input.{replay_left}
-use Rattle.plain_tree.specs.Tree.{Tree}
-use Rattle.offline_tool.specs.Output.{GoesOn}
-use Rattle.offline_tool.specs.Serving.{Serves}
+use Rattle.offline_tool.specs.Turns.{IsMidway}
 use Rattle.offline_tool.proofs.replay.replay.Given as goal
 
--- the verdict is that of what is left, and the output so far goes on with the output of what is left
+-- the verdict is that of what is left, and the replay is midway
 abbrev pub invariant-loop-behind : goal.invariant-loop-behind
 invariant-loop-behind g l = record {
   size : vec_len l.buffer ≡ 4 + 262144;
@@ -16,7 +14,7 @@ invariant-loop-behind g l = record {
   sink_later : g.T.Sink.faults l.fn.sink ≤ g.T.Sink.faults l.sink;
   verdict : (s : Stream) → g.S.Source.told l.fn.source ≡ Some s → (t : Stream) × (g.S.Source.told l.source ≡ Some t) × ((replay_of s.left).verdict ≡ (replay_left l.place t).verdict);
   output : (s : Stream) (before : List ℕ) → g.S.Source.told l.fn.source ≡ Some s → g.T.Sink.written l.fn.sink ≡ Some before
-      → (t : Stream) × (out : List ℕ) × (g.S.Source.told l.source ≡ Some t) × (g.T.Sink.written l.sink ≡ Some (before ++ out)) × (tree : Tree) × Serves l.core l.place tree × GoesOn l.limits.block_size s.left tree (replay_left l.place t) out;
+      → (t : Stream) × (out : List ℕ) × (g.S.Source.told l.source ≡ Some t) × (g.T.Sink.written l.sink ≡ Some (before ++ out)) × IsMidway l.limits.block_size s.left l.served l.place (replay_left l.place t) out;
 }
 
 abbrev pub decreases-loop-behind : goal.decreases-loop-behind

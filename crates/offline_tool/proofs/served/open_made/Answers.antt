@@ -4,7 +4,7 @@ use Rattle.s3_rows.specs.Made.{made_tables}
 use Rattle.s3_rows.specs.Tables.{Tables}
 use Rattle.tree_rows.specs.Shapes.{Represents}
 use Rattle.volume_core.specs.Opening.{AreReady}
-use Rattle.offline_tool.proofs.Answering.{opened}
+use Rattle.offline_tool.proofs.Begun.{begun}
 use Rattle.offline_tool.proofs.served.open_made.Goals as goal
 
 pub returns-in-Ok : goal.returns-in-Ok
@@ -13,4 +13,5 @@ returns-in-Ok c =
     let made : c.in_ok-keeper.keeper.tables ≡ made_tables b c.args.slots 0 = c.in_ok-keeper.ensures in
     let ready : AreReady c.in_ok-keeper.keeper.tables = subst (λ (t : Tables). AreReady t) (sym made) (c.made_tables_are_ready.ensures b c.args.slots 0) in
     let same : Represents c.in_ok-keeper.keeper.tables (made_tree b 0) = subst (λ (t : Tables). Represents t (made_tree b 0)) (sym made) (c.made_tables_are_the_made_tree.ensures.represents b c.args.slots 0) in
-    opened c.in-Ok.core c.in_ok-keeper.keeper b c.args.slots made (c.in-Ok.ensures.stands c.in_ok-keeper.keeper (made_tree b 0) refl ready same (refl, refl)) (c.in-Ok.ensures.mounted c.in_ok-keeper.keeper refl)
+    begun _ c.in_ok-keeper.keeper b c.args.slots made c.requires.least (c.in-Ok.ensures.mounted c.in_ok-keeper.keeper refl) c.tables_have_the_bytes_of_their_tree.ensures
+    (c.made_tables_are_the_made_tree.ensures.whole b c.args.slots 0) (c.in-Ok.ensures.stands c.in_ok-keeper.keeper (made_tree b 0) refl ready same (refl, refl))

@@ -6,9 +6,7 @@ returns c block_size slots now = record {
   served = record {
     valid = (c.made_tables_are_clean.ensures.clean block_size slots now).valid;
     unique = c.made_tables_are_clean.ensures.unique block_size slots now;
-    inode_blocks = refl;
     slots = refl;
   };
   named = refl;
-  empty = refl;
 }

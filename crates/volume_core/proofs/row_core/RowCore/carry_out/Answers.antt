@@ -1,4 +1,5 @@
 use Rattle.std.proofs.Common.{◌≡◌, refl, sym, subst, IsTrue}
+use Rattle.sha2.specs.Sha256.{sha256}
 use Rattle.op_frames.specs.declared.operation.Op.{Op}
 use Rattle.op_frames.specs.declared.operation.Op.TheVariants as ops
 use Rattle.core_rules.specs.Built.{is_built}
@@ -11,11 +12,27 @@ write-requires-clause-short g c = short_write c.in-Write.handle c.in-Write.offse
 
 pub returns-in-Truncate-clause-built : goal.returns-in-Truncate-clause-built
 returns-in-Truncate-clause-built g c built whole s =
-    subst (λ (op : Op). IsOutcome g.K.Keeper.told c.args.self.now c.truncate.new.self whole c.args.pass op c.args.now c.truncate.result) (sym c.in-Truncate.is) (c.truncate.ensures.outcome whole c.args.pass s)
+    subst (λ (op : Op). IsOutcome g.K.Keeper.told c.args.self.now c.truncate.new.self sha256 (g.L.Link.told c.args.link.now) (g.L.Link.told c.truncate.new.link) whole c.args.pass op c.args.now c.truncate.result) (sym c.in-Truncate.is)
+    (c.truncate.ensures.outcome whole c.args.pass s)
 
 pub returns-in-Read-clause-built : goal.returns-in-Read-clause-built
 returns-in-Read-clause-built g c built whole s =
-    subst (λ (op : Op). IsOutcome g.K.Keeper.told c.args.self.now c.read.new.self whole c.args.pass op c.args.now c.read.result) (sym c.in-Read.is) (c.read.ensures.outcome whole c.args.now s)
+    subst (λ (op : Op). IsOutcome g.K.Keeper.told c.args.self.now c.read.new.self sha256 (g.L.Link.told c.args.link.now) (g.L.Link.told c.read.new.link) whole c.args.pass op c.args.now c.read.result) (sym c.in-Read.is)
+    (c.read.ensures.outcome whole c.args.now s)
+
+pub returns-in-Fsync-clause-built : goal.returns-in-Fsync-clause-built
+returns-in-Fsync-clause-built g c built whole s =
+    subst (λ (op : Op). IsOutcome g.K.Keeper.told c.args.self.now c.fsync.new.self sha256 (g.L.Link.told c.args.link.now) (g.L.Link.told c.args.link.now) whole c.args.pass op c.args.now c.fsync.result) (sym c.in-Fsync.is)
+    (c.fsync.ensures.outcome whole c.args.now (g.L.Link.told c.args.link.now) s)
+
+pub returns-in-Lookup-clause-built : goal.returns-in-Lookup-clause-built
+returns-in-Lookup-clause-built g c built whole s = c.on_entries.ensures.outcome whole (g.L.Link.told c.args.link.now) s
+
+pub returns-in-Getattr-clause-built : goal.returns-in-Getattr-clause-built
+returns-in-Getattr-clause-built g c built whole s = c.on_inodes.ensures.outcome whole (g.L.Link.told c.args.link.now) s
+
+pub returns-in-LockTree-clause-built : goal.returns-in-LockTree-clause-built
+returns-in-LockTree-clause-built g c built whole s = c.on_trees.ensures.outcome whole (g.L.Link.told c.args.link.now) s
 
 -- every operation that is built has an arm
 pub returns-in_default-clause-built : goal.returns-in_default-clause-built
@@ -40,11 +57,14 @@ returns-in_default-clause-built g c built whole s = absurd (has_arm c.args.op.no
     has_arm (ops.Release handle) is own = c.in_default.not-Release handle is
     has_arm (ops.Read handle offset count) is own = c.in_default.not-Read handle offset count is
     has_arm (ops.Write handle offset bytes) is own = c.in_default.not-Write handle offset bytes is
+    has_arm (ops.Fsync handle) is own = c.in_default.not-Fsync handle is
     has_arm (ops.Readdir inode after most) is own = c.in_default.not-Readdir inode after most is
     has_arm ops.Statfs is own = c.in_default.not-Statfs is
     has_arm (ops.Setxattr inode name flag value) is own = c.in_default.not-Setxattr inode name flag value is
     has_arm (ops.Getxattr inode name) is own = c.in_default.not-Getxattr inode name is
     has_arm (ops.Listxattr inode after most) is own = c.in_default.not-Listxattr inode after most is
     has_arm (ops.Removexattr inode name) is own = c.in_default.not-Removexattr inode name is
+    has_arm (ops.LockTree inode) is own = c.in_default.not-LockTree inode is
+    has_arm (ops.RemoveTree parent name) is own = c.in_default.not-RemoveTree parent name is
     has_arm ops.Leave is own = c.in_default.not-Leave is
     has_arm _ is own = cc own

@@ -1,0 +1,69 @@
+-- The core of a replay that was just opened.
+use Rattle.std.proofs.Common.{◌≡◌, ◌<◌, ◌≤◌, ℕ, [], ◌∷◌, length, Some, refl, sym, ap, ◌∙◌, subst, arith}
+use Rattle.std.specs.Prelude.{IsTrue, nat_le}
+use Rattle.std.specs.List.{list_all}
+use Rattle.sha2.specs.Sha256.{sha256}
+use Rattle.plain_tree.specs.Tree.{made_tree}
+use Rattle.s3_rows.specs.declared.change.Change.TheVariants as changes
+use Rattle.s3_rows.specs.Rows.{Parameters}
+use Rattle.s3_rows.specs.Made.{made_tables, made_parameters}
+use Rattle.s3_rows.specs.Stores.{AreHeld}
+use Rattle.s3_rows.specs.Tables.{Tables}
+use Rattle.s3_rows.specs.Told.{Told, with_batch}
+use Rattle.s3_devices.specs.Keys.{objects_in}
+use Rattle.tree_rows.specs.Contents.{Contents, HaveBytes, tree_of}
+use Rattle.core_model.specs.Bytes.{HasBytes, no_overlay}
+use Rattle.core_model.specs.Safe.{HaveHeld}
+use Rattle.block_steps.specs.Owed.{next_block_of}
+use Rattle.file_ops.specs.FileChanges.{next_object_of}
+use Rattle.ref_counts.specs.Plans.{next_name_of, uses_of}
+use Rattle.volume_core.specs.Opening.{IsMounting, mounted}
+use Rattle.volume_core.specs.Standing.{StandsFor}
+use Rattle.offline_tool.specs.declared.served.Served.{Served}
+use Rattle.offline_tool.specs.Serving.{HasBytesOf, IsBegun, told_by}
+
+module _ (s : Served) (keeper : Told) (block_size slots : ℕ) (made : keeper.tables ≡ made_tables block_size slots 0) (least : 4096 ≤ block_size)
+    (mounting : IsMounting keeper (told_by s.core.keeper)) where
+  -- the made tables, mounted
+  abbrev opened : Tables
+  opened = record (made_tables block_size slots 0) { params = Some (mounted (made_parameters block_size slots)) }
+
+  tables : s.core.keeper.tables ≡ opened
+  tables =
+      let p : Parameters = mounting.0 in
+      let own : Some p ≡ Some (made_parameters block_size slots) = sym mounting.1 ∙ ap (λ (t : Tables). t.params) made in
+      let params : p ≡ made_parameters block_size slots = cc own in
+      let after : Told = with_batch (changes.SetParams (mounted p) ∷ []) keeper in
+      let one : Some s.core.keeper ≡ Some after = mounting.3 in
+      let now : s.core.keeper ≡ after = cc one in
+      ap (λ (x : Told). x.tables) now ∙ ap (λ (t : Tables). record t { params = Some (mounted p) }) made
+      ∙ ap (λ (q : Parameters). record (made_tables block_size slots 0) { params = Some (mounted q) }) params
+
+  -- there are no files, so that any contents have their bytes
+  has_bytes : ((m : Contents) (t : Tables) (p : Parameters) → t.params ≡ Some p → 0 < p.block_size → HaveBytes m t.blocks
+      → IsTrue (list_all (λ r. nat_le r.size p.block_size) t.blocks) → HasBytes m t no_overlay (tree_of m t)) → tree_of [] (made_tables block_size slots 0) ≡ made_tree block_size 0
+      → (m : Contents) → HasBytesOf m s (made_tree block_size 0)
+  has_bytes law whole m =
+      let own : HasBytes m opened no_overlay (tree_of m opened) = law m opened (mounted (made_parameters block_size slots)) refl (omega (arith, least)) tt refl in
+      let same : tree_of m opened ≡ tree_of [] (made_tables block_size slots 0) = refl in
+      record {
+        has = subst (λ (t : Tables). HasBytes m t no_overlay (made_tree block_size 0)) (sym tables) (subst (HasBytes m opened no_overlay) (same ∙ whole) own);
+        held = subst (λ (t : Tables). HaveHeld m (objects_in s.link) t.blocks) (sym tables) tt;
+      }
+
+  pub begun : ((m : Contents) (t : Tables) (p : Parameters) → t.params ≡ Some p → 0 < p.block_size → HaveBytes m t.blocks
+      → IsTrue (list_all (λ r. nat_le r.size p.block_size) t.blocks) → HasBytes m t no_overlay (tree_of m t)) → tree_of [] (made_tables block_size slots 0) ≡ made_tree block_size 0
+      → StandsFor told_by s.core (made_tree block_size 0) → IsBegun s (made_tree block_size 0)
+  begun law whole stands = record {
+    serves = record {
+      stands = stands;
+      size = omega (arith, least);
+      held = subst (λ (t : Tables). AreHeld sha256 (objects_in s.link) t.blocks) (sym tables) tt;
+      names = subst (λ (t : Tables). next_name_of t ≤ 2) (sym tables) (omega arith);
+      uses = subst (λ (t : Tables). uses_of t ≤ 1) (sym tables) (omega arith);
+      blocks = subst (λ (t : Tables). next_block_of t ≤ 1) (sym tables) (omega arith);
+      objects = subst (λ (t : Tables). next_object_of t ≤ 1) (sym tables) (omega arith);
+      places = subst (λ (t : Tables). length t.inode_blocks ≤ 0) (sym tables) (omega arith);
+    };
+    backed = has_bytes law whole;
+  }

@@ -1,0 +1,117 @@
+-- How many names, numbers and places one call adds to what is told.
+use Rattle.std.proofs.Common.{◌≡◌, ◌≤◌, ◌+◌, ℕ, zero, suc, List, Bool, true, false, cond, length, Option, None, Some, refl, sym, ap, ◌∙◌, subst, arith}
+use Rattle.std.specs.Prelude.{is_some, option_map, unwrap_or}
+use Rattle.op_frames.specs.declared.operation.Op.{Op}
+use Rattle.plain_tree.specs.Classes.{name_used, names_drawn}
+use Rattle.plain_tree.specs.Tree.{Tree}
+use Rattle.s3_rows.specs.declared.change.Change.TheVariants as changes
+use Rattle.s3_rows.specs.Batches.{after_change, tables_after}
+use Rattle.s3_rows.specs.Rows.{Content, Inode, Parameters}
+use Rattle.s3_rows.specs.Tables.{Tables}
+use Rattle.s3_rows.specs.Told.{IfTold, Told, with_batch}
+use Rattle.block_steps.specs.Owed.{KeepsNames, without_next_block}
+use Rattle.core_model.specs.Safe.{IsPrepared, with_new_object, with_new_objects}
+use Rattle.file_ops.specs.FileChanges.{AreFew}
+use Rattle.file_ops.specs.Placed.{ArePrepared}
+use Rattle.s3_devices.specs.Told.{Becomes}
+use Rattle.ref_counts.specs.Plans.{next_name_of, uses_of}
+use Rattle.volume_core.specs.Standing.{IsFileTold, IsToldAfter, IsToldAlike}
+
+-- an operation draws and uses at most one name
+pub at_most_one : (whole : Tree) (op : Op) → names_drawn whole op ≤ 1
+at_most_one whole op = by_test (is_some (name_used whole op))
+  where
+    by_test : (b : Bool) → cond b 1 0 ≤ 1
+    by_test true = omega arith
+    by_test false = omega arith
+
+-- at most one name more is drawn, and one more used; and few numbers and places of blocks
+pub record AreMore (t u : Tables) : Type 0 where
+  pub names : next_name_of u ≤ next_name_of t + 1
+  pub uses : uses_of u ≤ uses_of t + 1
+  pub few : AreFew 34 t u
+
+-- ---- tables with the same names
+
+record HaveSameNames (t u : Tables) : Type 0 where
+  names : next_name_of u ≡ next_name_of t
+  uses : uses_of u ≡ uses_of t
+
+same_names : (t : Tables) → HaveSameNames t t
+same_names t = record { names = refl; uses = refl }
+
+then_same : (t u v : Tables) → HaveSameNames t u → HaveSameNames u v → HaveSameNames t v
+then_same t u v one two = record { names = two.names ∙ one.names; uses = two.uses ∙ one.uses }
+
+-- objects that are drawn draw no name
+same_drawn_one : (t : Tables) (p : Option Parameters) → t.params ≡ p → HaveSameNames t (with_new_object p t)
+same_drawn_one t None is = same_names t
+same_drawn_one t (Some p) is = record { names = sym (ap (λ (q : Option Parameters). unwrap_or (option_map (λ x. x.next_name) q) 0) is); uses = refl }
+
+same_drawn : (count : ℕ) (t : Tables) → HaveSameNames t (with_new_objects count t)
+same_drawn zero t = same_names t
+same_drawn (suc count) t = then_same t (with_new_object t.params t) _ (same_drawn_one t t.params refl) (same_drawn count (with_new_object t.params t))
+
+same_prepared : (t u : Tables) → IsPrepared t u → HaveSameNames t u
+same_prepared t u is = subst (HaveSameNames t) (sym is.1) (same_drawn is.0 t)
+
+-- nor does a change of places, blocks and the row of one inode
+same_kept : (t u : Tables) (new : Inode) → KeepsNames (after_change (changes.PutInode new) t) u → HaveSameNames t u
+same_kept t u new kept = record {
+  names = sym (next_by u.params) ∙ ap (λ (p : Option Parameters). unwrap_or (option_map (λ x. x.next_name) p) 0) kept.params ∙ next_by t.params;
+  uses = ap (λ (rows : List Content). length rows + length u.attrs) kept.contents ∙ ap (λ rows. length t.contents + length rows) kept.attrs;
+}
+  where
+    next_by : (p : Option Parameters) → unwrap_or (option_map (λ x. x.next_name) (option_map without_next_block p)) 0 ≡ unwrap_or (option_map (λ x. x.next_name) p) 0
+    next_by None = refl
+    next_by (Some p) = refl
+
+more_of_same : (t u : Tables) → HaveSameNames t u → AreFew 34 t u → AreMore t u
+more_of_same t u same few = record { names = omega (arith, same.names); uses = omega (arith, same.uses); few = few }
+
+-- ---- what is told after a call
+
+module _ (before after : Told) where
+  abbrev old : Tables
+  old = before.tables
+
+  abbrev new : Tables
+  new = after.tables
+
+  same_told : Some after ≡ Some before → AreMore old new
+  same_told is =
+      let own : after ≡ before = cc is in
+      subst (λ (x : Told). AreMore old x.tables) (sym own)
+      (more_of_same old old (same_names old) (record { blocks = omega arith; objects = omega arith; places = omega arith }))
+
+  file_told : IsFileTold (Some before) (Some after) → AreMore old new
+  file_told told = by_middle told.0 told.2 told.3 told.4
+    where
+      by_middle : (middle : Option Told) → Becomes ArePrepared (Some before) middle → Some after ≡ option_map (with_batch told.1) middle
+          → IfTold middle (λ t. (row : Inode) × KeepsNames (after_change (changes.PutInode row) t) (tables_after told.1 t))
+          → AreMore old new
+      by_middle None prepared is kept = absurd prepared
+      by_middle (Some m) prepared is kept =
+          let own : after ≡ with_batch told.1 m = cc is in
+          let tables : new ≡ tables_after told.1 m.tables = ap (λ (x : Told). x.tables) own in
+          more_of_same old new
+          (then_same old m.tables new (same_prepared old m.tables prepared.0) (subst (HaveSameNames m.tables) (sym tables) (same_kept m.tables (tables_after told.1 m.tables) kept.0 kept.1)))
+          told.5
+
+  pub more_after : (b writes : Bool) (drawn : ℕ) → drawn ≤ 1 → IsToldAfter b writes drawn (Some before) (Some after) → AreMore old new
+  more_after false writes drawn one told = same_told told
+  more_after true false drawn one told =
+      let is : Some after ≡ Some (with_batch told.0 before) = told.1 in
+      let own : after ≡ with_batch told.0 before = cc is in
+      let tables : new ≡ tables_after told.0 old = ap (λ (x : Told). x.tables) own in
+      let small = told.2.1 in
+      record {
+        names = subst (λ (x : Tables). next_name_of x ≤ next_name_of old + 1) (sym tables) (omega (arith, small.names, one));
+        uses = subst (λ (x : Tables). uses_of x ≤ uses_of old + 1) (sym tables) (omega (arith, small.uses, one));
+        few = told.3;
+      }
+  more_after true true drawn one told = file_told told
+
+  pub more_alike : (writes : Bool) → IsToldAlike writes (Some before) (Some after) → AreMore old new
+  more_alike false told = same_told told
+  more_alike true told = more_of_same old new (same_prepared old new told.0.0) told.1
