@@ -1,0 +1,11 @@
+//! What a check found and did, a line each, and what a pass of a check gives.
+#![tactic(auto)]
+
+mod finding;
+mod laws;
+mod line;
+mod repair;
+
+pub use finding::{Finding, Numbered};
+pub use laws::findings_worked_by_hand;
+pub use repair::{Findings, PassFault, Repair};
