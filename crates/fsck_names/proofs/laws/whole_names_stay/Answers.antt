@@ -1,0 +1,8 @@
+use Rattle.std.proofs.Common.{refl}
+use Rattle.std.specs.Fmt.{digits}
+use Rattle.hex.specs.Hex.{encode_with}
+use Rattle.fsck_names.proofs.laws.whole_names_stay.Goals as goal
+
+pub returns-clause-lines : goal.returns-clause-lines
+unfolding digits encode_with
+returns-clause-lines c = refl

@@ -1,0 +1,6 @@
+pub mod Entries
+pub mod Loops
+pub mod Moves
+pub mod Pass
+pub mod Work
+pub mod Worked
