@@ -1,6 +1,5 @@
 -- Damaged tables, on which the pass is worked by hand. All of them are a made file system with some rows more or changed.
-use Rattle.std.specs.Prelude.{ℕ, ◌-◌, ◌^◌, List, [], ◌∷◌, ◌++◌, codes, map, Option, None, Some, option_map}
-use Rattle.s3_base.specs.declared.node_kind.Kind.{Kind}
+use Rattle.std.specs.Prelude.{ℕ, ◌-◌, ◌^◌, List, [], ◌∷◌, codes, map, Option, Some, option_map}
 use Rattle.s3_base.specs.declared.node_kind.Kind.TheVariants as kinds
 use Rattle.s3_rows.specs.Rows.{Inode, Content, Name, Parameters}
 use Rattle.s3_rows.specs.Tables.{Tables}

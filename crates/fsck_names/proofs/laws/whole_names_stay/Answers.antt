@@ -3,6 +3,6 @@ use Rattle.std.specs.Fmt.{digits}
 use Rattle.hex.specs.Hex.{encode_with}
 use Rattle.fsck_names.proofs.laws.whole_names_stay.Goals as goal
 
-pub returns-clause-lines : goal.returns-clause-lines
+pub returns : goal.returns
 unfolding digits encode_with
-returns-clause-lines c = refl
+returns c = record { lines = refl }
