@@ -12,7 +12,7 @@ use Rattle.s3_rows.specs.Selections.{name_at, bytes_of_name, bytes_cmp, by_paren
 use Rattle.s3_rows.specs.Validity.{has_inode, is_directory, any_kind, have_one_name, lost_and_found}
 use Rattle.fsck_findings.specs.declared.finding.Finding.{Finding}
 use Rattle.fsck_findings.specs.declared.finding.Finding.TheVariants as findings
-use Rattle.fsck_names.specs.Work.{Work, changed, noted}
+use Rattle.fsck_findings.specs.Work.{Work, changed, noted}
 
 -- the bytes of the entry's name; none where its row is absent
 abbrev pub name_of : Tables → Content → Option (List ℕ)

@@ -2,5 +2,4 @@ pub mod Entries
 pub mod Loops
 pub mod Moves
 pub mod Pass
-pub mod Work
 pub mod Worked

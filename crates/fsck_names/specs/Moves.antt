@@ -12,7 +12,7 @@ use Rattle.s3_rows.specs.Made.{made_directory}
 use Rattle.s3_rows.specs.Validity.{has_inode, is_directory, is_link, is_named, lost_and_found}
 use Rattle.fsck_findings.specs.declared.finding.Finding.TheVariants as findings
 use Rattle.fsck_findings.specs.declared.finding.Numbered.TheVariants as numbered
-use Rattle.fsck_names.specs.Work.{Work, changed, noted, ◌>>=◌, new_inode, entered}
+use Rattle.fsck_findings.specs.Work.{Work, changed, noted, ◌>>=◌, new_inode, entered}
 use Rattle.fsck_names.specs.Entries.{is_entry_of, delete_of}
 
 -- ---- root and `lost+found`

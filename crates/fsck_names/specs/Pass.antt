@@ -2,7 +2,7 @@
 use Rattle.std.specs.Prelude.{filter, Option, Some, option_map}
 use Rattle.s3_rows.specs.Rows.{Parameters}
 use Rattle.s3_rows.specs.Tables.{Tables}
-use Rattle.fsck_names.specs.Work.{Work, begun, ◌>>=◌, each}
+use Rattle.fsck_findings.specs.Work.{Work, begun, ◌>>=◌, each}
 use Rattle.fsck_names.specs.Entries.{without_entries, is_dangling, is_doubled, is_false_lost_and_found, is_second_name}
 use Rattle.fsck_names.specs.Loops.{closes_loop}
 use Rattle.fsck_names.specs.Moves.{with_root, with_lost_and_found, moved, moved_or_removed, without_links, is_lost_directory, is_lost_other, is_broken_link}

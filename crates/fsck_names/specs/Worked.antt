@@ -5,7 +5,7 @@ use Rattle.s3_rows.specs.Rows.{Inode, Content, Name, Parameters}
 use Rattle.s3_rows.specs.Tables.{Tables}
 use Rattle.s3_rows.specs.Made.{made_tables, made_parameters, made_directory}
 use Rattle.fsck_findings.specs.Line.{line_of}
-use Rattle.fsck_names.specs.Work.{Work}
+use Rattle.fsck_findings.specs.Work.{Work}
 use Rattle.fsck_names.specs.Pass.{repaired_names}
 
 -- the parameters of these tables
