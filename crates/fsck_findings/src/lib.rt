@@ -4,8 +4,10 @@
 mod finding;
 mod laws;
 mod line;
+mod looking;
 mod repair;
 
 pub use finding::{Finding, Numbered};
 pub use laws::findings_worked_by_hand;
+pub use looking::{Look, look_at_all};
 pub use repair::{Findings, PassFault, Repair};
