@@ -1,5 +1,6 @@
--- The pass of a check on rows: targets, attributes, sizes, places in files, blocks, and the numbers that come next.
-use Rattle.std.specs.Prelude.{ℕ, ◌==◌, List, [], ◌∷◌, ◌++◌, length, map, filter, Bool, not, ◌&&◌, ◌||◌, nat_lt, nat_le, is_some, None, Some, if◌then◌else◌}
+-- The pass of a check on rows: targets, attributes, sizes, places in files, blocks, and the numbers that come next. All steps read the
+-- tables as the pass begins: none of them changes what another looks at.
+use Rattle.std.specs.Prelude.{ℕ, ◌==◌, List, [], ◌∷◌, ◌++◌, length, map, max, Bool, not, ◌&&◌, ◌||◌, nat_lt, nat_le, is_some, None, Some, if◌then◌else◌}
 use Rattle.std.specs.List.{list_any}
 use Rattle.s3_base.specs.declared.node_kind.Kind.TheVariants as kinds
 use Rattle.s3_rows.specs.declared.change.Change.TheVariants as changes
@@ -10,29 +11,18 @@ use Rattle.s3_rows.specs.Validity.{has_inode, any_kind, is_link, is_regular, is_
 use Rattle.fsck_findings.specs.declared.finding.Finding.TheVariants as findings
 use Rattle.fsck_findings.specs.declared.finding.Numbered.{Numbered}
 use Rattle.fsck_findings.specs.declared.finding.Numbered.TheVariants as numbered
-use Rattle.fsck_findings.specs.Work.{Work, above, begun, changed, noted, with_params}
+use Rattle.fsck_findings.specs.Found.{Found, nothing, found, found_if, each_found, ◌then_also◌}
+use Rattle.fsck_findings.specs.Work.{above, inodes_in_use, names_in_use}
 
--- ---- targets and attributes
+-- the target of what is no symbolic link goes
+abbrev pub about_target : Tables → Target → Found
+about_target t r = found_if (not (has_inode is_link t r.inode)) (changes.DeleteTarget r.inode) (findings.TargetDropped r.inode)
 
--- the target of what is no symbolic link
-abbrev pub is_stray_target : Tables → Target → Bool
-is_stray_target t r = not (has_inode is_link t r.inode)
-
-abbrev pub without_stray_targets : Work → Work
-without_stray_targets w =
-    let gone = filter (is_stray_target w.tables) w.tables.targets in
-    noted (map (λ r. findings.TargetDropped r.inode) gone) (changed (map (λ r. changes.DeleteTarget r.inode) gone) w)
-
--- the attribute of an inode without row, or of a name without row
-abbrev pub is_stray_attr : Tables → Attr → Bool
-is_stray_attr t r = not (has_inode any_kind t r.inode) || not (is_some (name_at t r.name_id))
-
-abbrev pub without_stray_attrs : Work → Work
-without_stray_attrs w =
-    let gone = filter (is_stray_attr w.tables) w.tables.attrs in
-    noted (map (λ r. findings.AttributeDropped r.inode r.name_id) gone) (changed (map (λ r. changes.DeleteAttr r.inode r.name_id) gone) w)
-
--- ---- sizes
+-- the attribute of an inode without row, or of a name without row, goes
+abbrev pub about_attr : Tables → Attr → Found
+about_attr t r =
+    found_if (not (has_inode any_kind t r.inode && is_some (name_at t r.name_id))) (changes.DeleteAttr r.inode r.name_id)
+    (findings.AttributeDropped r.inode r.name_id)
 
 -- 0 for a directory, the target's length for a link that has one, and else what it is
 abbrev pub right_size : Tables → Inode → ℕ
@@ -43,22 +33,15 @@ right_size t r =
       | kinds.Link ↦ elim (target_at t r.id) [ Some x ↦ length x.target | None ↦ r.size ]
     ]
 
-abbrev pub with_right_sizes : Work → Work
-with_right_sizes w =
-    let wrong = filter (λ r. not (r.size == right_size w.tables r)) w.tables.inodes in
-    noted (map (λ r. findings.Size r.id r.size (right_size w.tables r)) wrong)
-    (changed (map (λ r. changes.PutInode (record r { size = right_size w.tables r })) wrong) w)
+abbrev pub about_size : Tables → Inode → Found
+about_size t r =
+    found_if (not (r.size == right_size t r)) (changes.PutInode (record r { size = right_size t r })) (findings.Size r.id r.size (right_size t r))
 
--- ---- places in files
-
--- of what is no regular file, or at or past its end
-abbrev pub is_stray_place : Tables → Parameters → InodeBlock → Bool
-is_stray_place t p r = not (has_inode is_regular t r.inode) || not (is_in_file t p r.inode r.blockno)
-
-abbrev pub without_stray_places : Work → Work
-without_stray_places w =
-    let gone = filter (is_stray_place w.tables w.params) w.tables.inode_blocks in
-    noted (map (λ r. findings.LinkDropped r.inode r.blockno) gone) (changed (map (λ r. changes.DeleteInodeBlock r.inode r.blockno) gone) w)
+-- the place of what is no regular file, or at or past its end, goes
+abbrev pub about_place : Tables → Parameters → InodeBlock → Found
+about_place t p r =
+    found_if (not (has_inode is_regular t r.inode && is_in_file t p r.inode r.blockno)) (changes.DeleteInodeBlock r.inode r.blockno)
+    (findings.LinkDropped r.inode r.blockno)
 
 -- ---- blocks
 
@@ -68,18 +51,14 @@ is_sound_block t p r = has_size_of_object t r && nat_le r.size p.block_size
 
 -- it has the digest or the object of one of these blocks
 abbrev pub is_like_one_of : List Block → Block → Bool
-is_like_one_of blocks r = list_any (λ b. have_one_digest b r || have_one_object b r) blocks
+is_like_one_of blocks r = list_any (λ b. have_one_digest r b) blocks || list_any (λ b. have_one_object r b) blocks
 
--- the blocks that go: those that are not sound, and those like one before them that stays
-abbrev pub blocks_that_go : Tables → Parameters → List Block → List Block → List Block
-blocks_that_go t p stay [] = []
-blocks_that_go t p stay (r ∷ rs) =
-    if is_sound_block t p r && not (is_like_one_of stay r) then blocks_that_go t p (r ∷ stay) rs else r ∷ blocks_that_go t p stay rs
-
-abbrev pub with_sound_blocks : Work → Work
-with_sound_blocks w =
-    let gone = blocks_that_go w.tables w.params [] w.tables.blocks in
-    noted (map (λ r. findings.Removed numbered.Block r.id) gone) (changed (map (λ r. changes.DeleteBlock r.id) gone) w)
+-- those go that are not sound, and those like one before them that stays
+abbrev pub about_blocks : Tables → Parameters → List Block → List Block → Found
+about_blocks t p stay [] = nothing
+about_blocks t p stay (r ∷ rs) =
+    if is_sound_block t p r && not (is_like_one_of stay r) then about_blocks t p (r ∷ stay) rs
+    else found (changes.DeleteBlock r.id) (findings.Removed numbered.Block r.id) then_also about_blocks t p stay rs
 
 -- ---- numbers that come next
 
@@ -87,26 +66,23 @@ with_sound_blocks w =
 abbrev pub blocks_in_use : Tables → List ℕ
 blocks_in_use t = map (λ r. r.id) t.blocks ++ map (λ r. r.block) t.inode_blocks
 
--- the number that comes next is raised to the least one that is free
-abbrev pub raised : Numbered → (Parameters → ℕ) → (ℕ → Parameters → Parameters) → ℕ → Work → Work
-raised table next with_next least w =
-    if nat_lt (next w.params) least then
-    noted (findings.Next table (next w.params) least ∷ []) (with_params (with_next least w.params) w)
-    else w
+-- a number that is below the least free one becomes that
+abbrev pub about_next : Numbered → ℕ → ℕ → Parameters → Found
+about_next table was least p = found_if (nat_lt was least) (changes.SetParams p) (findings.Next table was least)
 
-abbrev pub raised_inode : ℕ → Work → Work
-raised_inode = raised numbered.Inode (λ p. p.next_inode) (λ n p. record p { next_inode = n })
-
-abbrev pub raised_name : ℕ → Work → Work
-raised_name = raised numbered.Name (λ p. p.next_name) (λ n p. record p { next_name = n })
-
-abbrev pub raised_block : ℕ → Work → Work
-raised_block = raised numbered.Block (λ p. p.next_block) (λ n p. record p { next_block = n })
+-- the least free numbers, of inodes, names and blocks
+abbrev pub about_numbers : Parameters → ℕ → ℕ → ℕ → Found
+about_numbers p inode name block =
+    let first = record p { next_inode = max p.next_inode inode } in
+    let second = record first { next_name = max p.next_name name } in
+    let third = record second { next_block = max p.next_block block } in
+    about_next numbered.Inode p.next_inode inode first then_also about_next numbered.Name p.next_name name second
+    then_also about_next numbered.Block p.next_block block third
 
 -- ---- the pass
 
--- numbers in use are those of the tables as the pass begins
-abbrev pub repaired_rows : Parameters → Tables → Work
+abbrev pub repaired_rows : Parameters → Tables → Found
 repaired_rows p t =
-    let w = with_sound_blocks (without_stray_places (with_right_sizes (without_stray_attrs (without_stray_targets (begun p t))))) in
-    raised_block (above (blocks_in_use t)) (raised_name w.least_name (raised_inode w.least_inode w))
+    each_found (about_target t) t.targets then_also each_found (about_attr t) t.attrs then_also each_found (about_size t) t.inodes
+    then_also each_found (about_place t p) t.inode_blocks then_also about_blocks t p [] t.blocks
+    then_also about_numbers p (above (inodes_in_use t)) (above (names_in_use t)) (above (blocks_in_use t))

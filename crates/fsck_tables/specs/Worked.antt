@@ -18,7 +18,7 @@ row_lines t = map line_of (repaired_rows made (record t { params = Some made }))
 
 -- the lines of the pass on counts
 abbrev pub count_lines : Tables → List (List ℕ)
-count_lines t = map line_of (repaired_counts made (record t { params = Some made })).findings
+count_lines t = map line_of (repaired_counts (record t { params = Some made })).findings
 
 -- ---- rows
 
