@@ -32,6 +32,10 @@ inodes_in_use t =
 abbrev pub names_in_use : Tables → List ℕ
 names_in_use t = map (λ r. r.id) t.names ++ map (λ r. r.name_id) t.contents ++ map (λ r. r.name_id) t.attrs
 
+-- the numbers of blocks that rows have or name
+abbrev pub blocks_in_use : Tables → List ℕ
+blocks_in_use t = map (λ r. r.id) t.blocks ++ map (λ r. r.block) t.inode_blocks
+
 abbrev pub begun : Parameters → Tables → Work
 begun p t = record {
   params = p;
