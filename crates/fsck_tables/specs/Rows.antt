@@ -1,6 +1,6 @@
 -- The pass of a check on rows: targets, attributes, sizes, places in files, blocks, and the numbers that come next. All steps read the
 -- tables as the pass begins: none of them changes what another looks at.
-use Rattle.std.specs.Prelude.{ℕ, ◌==◌, List, [], ◌∷◌, ◌++◌, length, map, max, Bool, not, ◌&&◌, ◌||◌, nat_lt, nat_le, is_some, None, Some, if◌then◌else◌}
+use Rattle.std.specs.Prelude.{ℕ, ◌==◌, List, [], ◌∷◌, length, max, Bool, not, ◌&&◌, ◌||◌, nat_lt, nat_le, is_some, None, Some, if◌then◌else◌}
 use Rattle.std.specs.List.{list_any}
 use Rattle.s3_base.specs.declared.node_kind.Kind.TheVariants as kinds
 use Rattle.s3_rows.specs.declared.change.Change.TheVariants as changes
@@ -12,7 +12,7 @@ use Rattle.fsck_findings.specs.declared.finding.Finding.TheVariants as findings
 use Rattle.fsck_findings.specs.declared.finding.Numbered.{Numbered}
 use Rattle.fsck_findings.specs.declared.finding.Numbered.TheVariants as numbered
 use Rattle.fsck_findings.specs.Found.{Found, nothing, found, found_if, each_found, ◌then_also◌}
-use Rattle.fsck_findings.specs.Work.{above, inodes_in_use, names_in_use}
+use Rattle.fsck_findings.specs.Work.{above, inodes_in_use, names_in_use, blocks_in_use}
 
 -- the target of what is no symbolic link goes
 abbrev pub about_target : Tables → Target → Found
@@ -62,10 +62,6 @@ about_blocks t p stay (r ∷ rs) =
 
 -- ---- numbers that come next
 
--- the numbers of blocks that rows have or name
-abbrev pub blocks_in_use : Tables → List ℕ
-blocks_in_use t = map (λ r. r.id) t.blocks ++ map (λ r. r.block) t.inode_blocks
-
 -- a number that is below the least free one becomes that
 abbrev pub about_next : Numbered → ℕ → ℕ → Parameters → Found
 about_next table was least p = found_if (nat_lt was least) (changes.SetParams p) (findings.Next table was least)
@@ -81,8 +77,13 @@ about_numbers p inode name block =
 
 -- ---- the pass
 
+-- what is found about targets, attributes, sizes and places
+abbrev pub about_rows : Parameters → Tables → Found
+about_rows p t =
+    each_found (about_target t) t.targets then_also each_found (about_attr t) t.attrs then_also each_found (about_size t) t.inodes
+    then_also each_found (about_place t p) t.inode_blocks
+
 abbrev pub repaired_rows : Parameters → Tables → Found
 repaired_rows p t =
-    each_found (about_target t) t.targets then_also each_found (about_attr t) t.attrs then_also each_found (about_size t) t.inodes
-    then_also each_found (about_place t p) t.inode_blocks then_also about_blocks t p [] t.blocks
+    about_rows p t then_also about_blocks t p [] t.blocks
     then_also about_numbers p (above (inodes_in_use t)) (above (names_in_use t)) (above (blocks_in_use t))
