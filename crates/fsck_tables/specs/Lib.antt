@@ -1,4 +1,5 @@
 pub mod Blocks
 pub mod Counts
 pub mod Rows
+pub mod Tally
 pub mod Worked
