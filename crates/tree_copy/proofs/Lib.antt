@@ -1,0 +1,3 @@
+pub mod PartialSteps
+pub mod SameEntries
+pub mod WholeCopy
