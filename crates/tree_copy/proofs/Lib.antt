@@ -1,3 +1,9 @@
+pub mod CopiedAttrs
+pub mod CopiedNames
+pub mod CopiedNode
+pub mod NewCopies
 pub mod PartialSteps
 pub mod SameEntries
+pub mod Stands
+pub mod Visits
 pub mod WholeCopy

@@ -10,16 +10,17 @@ use Rattle.std.specs.Prelude.{◌==◌, ◌&&◌, ◌||◌, option_map}
 use Rattle.plain_tree.specs.Below.{is_among}
 use Rattle.plain_tree.specs.Entries.{add_entry, entries_of, entry_at}
 use Rattle.plain_tree.specs.Names.{NamesInOrder, NamesRise, Rise}
+use Rattle.plain_tree.specs.Numbers.{InOrder}
 use Rattle.plain_tree.specs.Subtrees.{copy_number}
-use Rattle.plain_tree.specs.Tree.{Content, Regular, Directory, Link, Node, Tree, change_node, changed_by, entry_of, named, node_at, touched}
+use Rattle.plain_tree.specs.Tree.{Content, Regular, Directory, Link, Node, Tree, change_node, changed_by, entry_of, named, node_at, touched, with_node}
 use Rattle.tree_laws.proofs.Copy.Nodes.{place_of-one, place_within}
 use Rattle.tree_laws.proofs.Name.Order.{NamesInOrder-add_entry}
 use Rattle.tree_laws.proofs.Name.Rise.{Rise-insert_entry}
-use Rattle.tree_laws.proofs.Node.Each.{Each, each-change_node}
+use Rattle.tree_laws.proofs.Node.Each.{Each, each-change_node, each-insert_entry}
 use Rattle.tree_laws.proofs.Node.Keys.{cases_name, lookup-insert_entry_other, lookup-insert_entry_same, names_tell, other_name, own_name}
 use Rattle.tree_laws.proofs.Node.Kind.{entry_in}
-use Rattle.tree_laws.proofs.Node.Order.{InOrder-change_node}
-use Rattle.tree_laws.proofs.Node.Reading.{node_at-change_node_other, node_at-change_node_same}
+use Rattle.tree_laws.proofs.Node.Order.{InOrder-change_node, InOrder-with_node}
+use Rattle.tree_laws.proofs.Node.Reading.{node_at-change_node_other, node_at-change_node_same, node_at-with_node_other, node_at-with_node_same}
 use Rattle.tree_copy.specs.PartialCopies.{HasCopy, HasMore, IsContentOf, IsPartial, also_entry, begun, entered, without_entries}
 use Rattle.tree_copy.proofs.SameEntries.{among_first, among_last, place_last, place_stays}
 
@@ -54,7 +55,47 @@ pub NamesInOrder-change_node : (f : Node → Node) → ((node : Node) → Rise (
 NamesInOrder-change_node f keeps i t rise =
     rise_from_each (change_node i f t).nodes (each-change_node HasNamesInOrder f keeps i t (each_from_rise t.nodes rise))
 
+-- ---- one node more
+
+pub HasMore-with_node : (t : Tree) (node : Node) → InOrder t → NamesInOrder t → Rise (keys_of (entries_of node.content)) → HasMore t (with_node node t) node
+HasMore-with_node t node ordered names rise = record {
+  next_inode = refl;
+  handles = refl;
+  next_handle = refl;
+  block_size = refl;
+  ordered = InOrder-with_node node t ordered;
+  names =
+      rise_from_each (with_node node t).nodes
+      (each-insert_entry (λ inode node. HasNamesInOrder node) nat_cmp t.next_inode node rise (λ l w own. rise) t.nodes (each_from_rise t.nodes names));
+  there = node_at-with_node_same node t;
+  others = λ y apart. node_at-with_node_other node t y apart;
+}
+
+-- the new node changes, and keeps its names in order
+pub HasMore-change_node : (t after : Tree) (node : Node) (f : Node → Node)
+    → ((x : Node) → Rise (keys_of (entries_of x.content)) → Rise (keys_of (entries_of (f x).content)))
+    → (i : ℕ) → i ≡ t.next_inode → HasMore t after node → HasMore t (change_node i f after) (f node)
+HasMore-change_node t after node f keeps i is more =
+    let kept : KeepsNumbers after (change_node i f after) = KeepsNumbers-change_node f i after in
+    record {
+      next_inode = kept.next_inode ∙ more.next_inode;
+      handles = kept.handles ∙ more.handles;
+      next_handle = kept.next_handle ∙ more.next_handle;
+      block_size = kept.block_size ∙ more.block_size;
+      ordered = InOrder-change_node f i after more.ordered;
+      names = NamesInOrder-change_node f keeps i after more.names;
+      there =
+          subst (λ k. node_at (change_node i f after) k ≡ Some (f node)) is
+          (node_at-change_node_same f i after ∙ ap (option_map f) (ap (node_at after) is ∙ more.there));
+      others = λ y apart. node_at-change_node_other f i y after (λ same. apart (same ∙ is)) ∙ more.others y apart;
+    }
+
 -- ---- one entry more of a content
+
+pub rise_begun : (old : Content) → Rise (keys_of (entries_of (without_entries old)))
+rise_begun (Directory entries) = _
+rise_begun (Regular bytes) = _
+rise_begun (Link target) = _
 
 rise-named : (name : List ℕ) (inode : ℕ) (content : Content) → Rise (keys_of (entries_of content)) → Rise (keys_of (entries_of (named name inode content)))
 rise-named name inode (Directory entries) rise = Rise-insert_entry entries name inode rise

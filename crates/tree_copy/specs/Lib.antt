@@ -1,1 +1,3 @@
+pub mod CopiedRows
+pub mod CopySteps
 pub mod PartialCopies

@@ -1,10 +1,22 @@
-ghost use Rattle.std.specs.Prelude.{◌≡◌, ◌≢◌, ◌<◌, ◌∷◌, ◌++◌, ℕ, List, [], Bool, true, false, None, Some};
+ghost use Rattle.std.specs.Prelude.{◌≡◌, ◌<◌, ◌∷◌, ◌++◌, ℕ, List, [], Bool, true, false, IsTrue, None, Some};
+ghost use Rattle.op_frames.specs.declared.operation.Op.TheVariants as ops;
 ghost use Rattle.plain_tree.specs.Below.{at_and_below, is_among};
+ghost use Rattle.plain_tree.specs.Checks.{first_failure};
 ghost use Rattle.plain_tree.specs.Entries.{add_entry, entry_at};
 ghost use Rattle.plain_tree.specs.Names.{NamesInOrder};
 ghost use Rattle.plain_tree.specs.Numbers.{InOrder};
+ghost use Rattle.plain_tree.specs.Operations.{checks, effect};
 ghost use Rattle.plain_tree.specs.Subtrees.{copy_number, with_copy};
 ghost use Rattle.plain_tree.specs.Tree.{Node, Tree, change_node, node_at};
+ghost use Rattle.plain_tree.specs.WellFormed.{IsWellFormed};
+ghost use Rattle.s3_rows.specs.Batches.{tables_after};
+ghost use Rattle.s3_rows.specs.Rows.{Inode};
+ghost use Rattle.s3_rows.specs.Selections.{inode_at};
+ghost use Rattle.s3_rows.specs.Tables.{Tables};
+ghost use Rattle.s3_rows.specs.Validity.{HasUniqueNames, IsValid};
+ghost use Rattle.tree_rows.specs.Shapes.{Represents};
+ghost use Rattle.tree_copy.specs.CopiedRows.{AreVisitsOf, Visit, names_copied, names_fit};
+ghost use Rattle.tree_copy.specs.CopySteps.{AreNamesOf};
 ghost use Rattle.tree_copy.specs.PartialCopies.{HasMore, IsPartial, also_entry, begun, entered, without_entries};
 
 /// A partial copy begins with a node and its entry, gains nodes that were not seen and entries of what was seen, and is the plain
@@ -23,4 +35,15 @@ pub fn partial_copies_come_to_be_whole()
         → IsPartial whole t parent now name (at_and_below whole source) done → InOrder whole → NamesInOrder whole → InOrder (with_copy source parent name now whole)
         → ((x y : ℕ) (other : List ℕ) → is_among (at_and_below whole source) x ≡ true → entry_at whole x other ≡ Some y → done x other ≡ true)
         → t ≡ with_copy source parent name now whole }
+{}
+
+/// Where the checks of a CopyTree pass, and all names may be used once more, the rows of the source's own node and entry, and then
+/// those of each entry that the walk meets, with those of its node at the first visit, make of valid tables those of the tree with
+/// the copy. Its files have no places yet.
+pub fn copied_names_leave_valid_tables()
+    ensures { (t : Tables) (whole : Tree) (directory top : Inode) (visits : List Visit) (pass source parent now : ℕ) (name : List ℕ)
+        → IsValid t → HasUniqueNames t → IsWellFormed whole → Represents t whole → first_failure (checks whole pass (ops.CopyTree source parent name)) ≡ None
+        → inode_at t parent ≡ Some directory → inode_at t source ≡ Some top → AreVisitsOf t (at_and_below whole source) top.id visits
+        → IsTrue (names_fit t whole.next_inode now top directory name visits)
+        → AreNamesOf t (tables_after (names_copied t whole.next_inode now top directory name visits) t) (effect whole pass (ops.CopyTree source parent name) now) }
 {}
