@@ -1,6 +1,8 @@
 pub mod CopiedAttrs
 pub mod CopiedNames
 pub mod CopiedNode
+pub mod CopiedPlaces
+pub mod CopiedTrees
 pub mod NewCopies
 pub mod PartialSteps
 pub mod SameEntries

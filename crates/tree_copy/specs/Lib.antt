@@ -1,3 +1,4 @@
+pub mod CopiedPlaces
 pub mod CopiedRows
 pub mod CopySteps
 pub mod PartialCopies

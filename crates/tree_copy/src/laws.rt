@@ -16,7 +16,7 @@ ghost use Rattle.s3_rows.specs.Tables.{Tables};
 ghost use Rattle.s3_rows.specs.Validity.{HasUniqueNames, IsValid};
 ghost use Rattle.tree_rows.specs.Shapes.{Represents};
 ghost use Rattle.tree_copy.specs.CopiedRows.{AreVisitsOf, Visit, names_copied, names_fit};
-ghost use Rattle.tree_copy.specs.CopySteps.{AreNamesOf};
+ghost use Rattle.tree_copy.specs.CopySteps.{AreNamesOf, IsCopyStep, tree_copied, tree_fits};
 ghost use Rattle.tree_copy.specs.PartialCopies.{HasMore, IsPartial, also_entry, begun, entered, without_entries};
 
 /// A partial copy begins with a node and its entry, gains nodes that were not seen and entries of what was seen, and is the plain
@@ -46,4 +46,15 @@ pub fn copied_names_leave_valid_tables()
         → inode_at t parent ≡ Some directory → inode_at t source ≡ Some top → AreVisitsOf t (at_and_below whole source) top.id visits
         → IsTrue (names_fit t whole.next_inode now top directory name visits)
         → AreNamesOf t (tables_after (names_copied t whole.next_inode now top directory name visits) t) (effect whole pass (ops.CopyTree source parent name) now) }
+{}
+
+/// And where all blocks of its files may count one place more, the places of the files, which come behind the names, leave valid
+/// tables of the tree with the copy. No block and no object comes or goes; each place of the copy of a file has the form of the
+/// place of the file, and all other places keep theirs.
+pub fn copied_trees_are_steps()
+    ensures { (t : Tables) (whole : Tree) (directory top : Inode) (visits : List Visit) (pass source parent now : ℕ) (name : List ℕ)
+        → IsValid t → HasUniqueNames t → IsWellFormed whole → Represents t whole → first_failure (checks whole pass (ops.CopyTree source parent name)) ≡ None
+        → inode_at t parent ≡ Some directory → inode_at t source ≡ Some top → AreVisitsOf t (at_and_below whole source) top.id visits
+        → IsTrue (tree_fits t whole.next_inode now top directory name visits)
+        → IsCopyStep t (tables_after (tree_copied t whole.next_inode now top directory name visits) t) whole source (effect whole pass (ops.CopyTree source parent name) now) }
 {}

@@ -3,4 +3,6 @@
 
 mod laws;
 
-pub use laws::{copied_names_leave_valid_tables, partial_copies_come_to_be_whole};
+pub use laws::{
+    copied_names_leave_valid_tables, copied_trees_are_steps, partial_copies_come_to_be_whole,
+};
