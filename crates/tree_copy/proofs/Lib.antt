@@ -8,4 +8,5 @@ pub mod PartialSteps
 pub mod SameEntries
 pub mod Stands
 pub mod Visits
+pub mod WalkOrder
 pub mod WholeCopy

@@ -2,3 +2,4 @@ pub mod CopiedPlaces
 pub mod CopiedRows
 pub mod CopySteps
 pub mod PartialCopies
+pub mod WalkOrder

@@ -1,6 +1,6 @@
 ghost use Rattle.std.specs.Prelude.{◌≡◌, ◌<◌, ◌∷◌, ◌++◌, ℕ, List, [], Bool, true, false, IsTrue, None, Some};
 ghost use Rattle.op_frames.specs.declared.operation.Op.TheVariants as ops;
-ghost use Rattle.plain_tree.specs.Below.{at_and_below, is_among};
+ghost use Rattle.plain_tree.specs.Below.{at_and_below, children, is_among};
 ghost use Rattle.plain_tree.specs.Checks.{first_failure};
 ghost use Rattle.plain_tree.specs.Entries.{add_entry, entry_at};
 ghost use Rattle.plain_tree.specs.Names.{NamesInOrder};
@@ -17,7 +17,17 @@ ghost use Rattle.s3_rows.specs.Validity.{HasUniqueNames, IsValid};
 ghost use Rattle.tree_rows.specs.Shapes.{Represents};
 ghost use Rattle.tree_copy.specs.CopiedRows.{AreVisitsOf, Visit, names_copied, names_fit};
 ghost use Rattle.tree_copy.specs.CopySteps.{AreNamesOf, IsCopyStep, tree_copied, tree_fits};
+ghost use Rattle.tree_copy.specs.WalkOrder.{walked};
 ghost use Rattle.tree_copy.specs.PartialCopies.{HasMore, IsPartial, also_entry, begun, entered, without_entries};
+
+/// The plain tree's walk may be made one node at a time: what was seen is passed, and what was not is seen, with all below it before
+/// the next.
+pub fn walks_go_on_node_by_node()
+    ensures first { (t : Tree) (x : ℕ) → at_and_below t x ≡ walked t (children t x) (x ∷ []) }
+    ensures seen { (t : Tree) (x : ℕ) (xs seen : List ℕ) → is_among seen x ≡ true → walked t (x ∷ xs) seen ≡ walked t xs seen }
+    ensures new { (t : Tree) (x : ℕ) (xs seen : List ℕ) → is_among seen x ≡ false
+        → walked t (x ∷ xs) seen ≡ walked t xs (walked t (children t x) (seen ++ x ∷ [])) }
+{}
 
 /// A partial copy begins with a node and its entry, gains nodes that were not seen and entries of what was seen, and is the plain
 /// tree's own copy once it has seen all at and below the source in the order of the walk, and has all their entries.

@@ -5,4 +5,5 @@ mod laws;
 
 pub use laws::{
     copied_names_leave_valid_tables, copied_trees_are_steps, partial_copies_come_to_be_whole,
+    walks_go_on_node_by_node,
 };
