@@ -3,6 +3,7 @@ pub mod CopiedNames
 pub mod CopiedNode
 pub mod CopiedPlaces
 pub mod CopiedTrees
+pub mod CopyCome
 pub mod NewCopies
 pub mod PartialSteps
 pub mod SameEntries

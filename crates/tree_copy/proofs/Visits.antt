@@ -100,7 +100,7 @@ or_all : (b : Bool) → (b || true) ≡ true
 or_all true = refl
 or_all false = refl
 
-list_any-last : {X : Type 0} (test : X → Bool) (xs : List X) (x : X) → list_any test (xs ++ x ∷ []) ≡ (list_any test xs || test x)
+pub list_any-last : {X : Type 0} (test : X → Bool) (xs : List X) (x : X) → list_any test (xs ++ x ∷ []) ≡ (list_any test xs || test x)
 list_any-last test [] x = by_case (test x)
   where
     by_case : (b : Bool) → (b || false) ≡ b

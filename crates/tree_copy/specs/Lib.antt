@@ -1,5 +1,6 @@
 pub mod CopiedPlaces
 pub mod CopiedRows
+pub mod CopyLevels
 pub mod CopySteps
 pub mod PartialCopies
 pub mod WalkOrder

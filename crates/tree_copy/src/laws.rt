@@ -1,4 +1,4 @@
-ghost use Rattle.std.specs.Prelude.{◌≡◌, ◌<◌, ◌∷◌, ◌++◌, ℕ, List, [], Bool, true, false, IsTrue, None, Some};
+ghost use Rattle.std.specs.Prelude.{◌≡◌, ◌<◌, ◌∷◌, ◌++◌, ℕ, List, [], Bool, true, false, find, IsTrue, None, Some};
 ghost use Rattle.op_frames.specs.declared.operation.Op.TheVariants as ops;
 ghost use Rattle.plain_tree.specs.Below.{at_and_below, children, is_among};
 ghost use Rattle.plain_tree.specs.Checks.{first_failure};
@@ -9,13 +9,17 @@ ghost use Rattle.plain_tree.specs.Operations.{checks, effect};
 ghost use Rattle.plain_tree.specs.Subtrees.{copy_number, with_copy};
 ghost use Rattle.plain_tree.specs.Tree.{Node, Tree, change_node, node_at};
 ghost use Rattle.plain_tree.specs.WellFormed.{IsWellFormed};
+ghost use Rattle.s3_rows.specs.declared.lists.NamedEntry.{NamedEntry};
 ghost use Rattle.s3_rows.specs.Batches.{tables_after};
+ghost use Rattle.s3_rows.specs.Keyed.{is_past};
 ghost use Rattle.s3_rows.specs.Rows.{Inode};
-ghost use Rattle.s3_rows.specs.Selections.{inode_at};
+ghost use Rattle.s3_rows.specs.Selections.{by_entry_name, inode_at, named_entries};
 ghost use Rattle.s3_rows.specs.Tables.{Tables};
-ghost use Rattle.s3_rows.specs.Validity.{HasUniqueNames, IsValid};
+ghost use Rattle.s3_rows.specs.Validity.{has_inode, is_directory, HasUniqueNames, IsValid};
 ghost use Rattle.tree_rows.specs.Shapes.{Represents};
-ghost use Rattle.tree_copy.specs.CopiedRows.{AreVisitsOf, Visit, names_copied, names_fit};
+ghost use Rattle.tree_copy.specs.CopiedRows.{all_seen, AreVisitsOf, Visit, names_copied, names_fit};
+ghost use Rattle.tree_copy.specs.declared.walk.Level.{Level};
+ghost use Rattle.tree_copy.specs.CopyLevels.{first_level, HasCome, levels_after, visit_of};
 ghost use Rattle.tree_copy.specs.CopySteps.{AreNamesOf, IsCopyStep, tree_copied, tree_fits};
 ghost use Rattle.tree_copy.specs.WalkOrder.{walked};
 ghost use Rattle.tree_copy.specs.PartialCopies.{HasMore, IsPartial, also_entry, begun, entered, without_entries};
@@ -67,4 +71,26 @@ pub fn copied_trees_are_steps()
         → inode_at t parent ≡ Some directory → inode_at t source ≡ Some top → AreVisitsOf t (at_and_below whole source) top.id visits
         → IsTrue (tree_fits t whole.next_inode now top directory name visits)
         → IsCopyStep t (tables_after (tree_copied t whole.next_inode now top directory name visits) t) whole source (effect whole pass (ops.CopyTree source parent name) now) }
+{}
+
+/// The walk of a copy begins before all entries of the source. A level that has no further entry is done; the entry behind a
+/// level's last one is visited, and what it names is seen, where it was not, and a directory is gone through before the level goes
+/// on. Where no level is left, the visits are those of the copy.
+pub fn copy_walks_come_to_all()
+    ensures first { (t : Tables) (whole : Tree) (top : ℕ) → IsValid t → Represents t whole → IsWellFormed whole → IsTrue (has_inode is_directory t top)
+        → HasCome t whole top [] (first_level top whole.next_inode ∷ []) }
+    ensures done { (t : Tables) (whole : Tree) (top : ℕ) (visits : List Visit) (l : Level) (levels : List Level) → IsValid t → Represents t whole → IsWellFormed whole
+        → IsTrue (has_inode is_directory t top) → HasCome t whole top visits (l ∷ levels)
+        → find (is_past by_entry_name l.last) (named_entries t l.directory) ≡ None → HasCome t whole top visits levels }
+    ensures again { (t : Tables) (whole : Tree) (top : ℕ) (visits : List Visit) (l : Level) (levels : List Level) (e : NamedEntry) (r : Inode) → IsValid t → Represents t whole
+        → IsWellFormed whole → IsTrue (has_inode is_directory t top) → HasCome t whole top visits (l ∷ levels)
+        → find (is_past by_entry_name l.last) (named_entries t l.directory) ≡ Some e → inode_at t e.row.inode ≡ Some r → is_among (all_seen (top ∷ []) visits) r.id ≡ true
+        → HasCome t whole top (visits ++ visit_of l e r ∷ []) (levels_after l e r true 0 levels) }
+    ensures new { (t : Tables) (whole : Tree) (top copy : ℕ) (visits : List Visit) (l : Level) (levels : List Level) (e : NamedEntry) (r : Inode) → IsValid t → Represents t whole
+        → IsWellFormed whole → IsTrue (has_inode is_directory t top) → HasCome t whole top visits (l ∷ levels)
+        → find (is_past by_entry_name l.last) (named_entries t l.directory) ≡ Some e → inode_at t e.row.inode ≡ Some r → is_among (all_seen (top ∷ []) visits) r.id ≡ false
+        → copy ≡ copy_number whole.next_inode (all_seen (top ∷ []) visits) r.id
+        → HasCome t whole top (visits ++ visit_of l e r ∷ []) (levels_after l e r false copy levels) }
+    ensures all { (t : Tables) (whole : Tree) (top : ℕ) (visits : List Visit) → IsValid t → Represents t whole → IsWellFormed whole → IsTrue (has_inode is_directory t top)
+        → HasCome t whole top visits [] → AreVisitsOf t (at_and_below whole top) top visits }
 {}
