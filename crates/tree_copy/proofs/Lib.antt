@@ -4,6 +4,7 @@ pub mod CopiedNode
 pub mod CopiedPlaces
 pub mod CopiedTrees
 pub mod CopyCome
+pub mod FirstVisits
 pub mod NewCopies
 pub mod PartialSteps
 pub mod SameEntries

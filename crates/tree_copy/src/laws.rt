@@ -94,3 +94,15 @@ pub fn copy_walks_come_to_all()
     ensures all { (t : Tables) (whole : Tree) (top : ℕ) (visits : List Visit) → IsValid t → Represents t whole → IsWellFormed whole → IsTrue (has_inode is_directory t top)
         → HasCome t whole top visits [] → AreVisitsOf t (at_and_below whole top) top visits }
 {}
+
+/// What the next entry of a level names is seen first, where it is a directory, or counts one link.
+pub fn directories_and_single_links_are_seen_first()
+    ensures directory { (t : Tables) (whole : Tree) (top : ℕ) (visits : List Visit) (l : Level) (levels : List Level) (e : NamedEntry) (r : Inode) → IsValid t → Represents t whole
+        → IsWellFormed whole → IsTrue (has_inode is_directory t top) → HasCome t whole top visits (l ∷ levels)
+        → find (is_past by_entry_name l.last) (named_entries t l.directory) ≡ Some e → inode_at t e.row.inode ≡ Some r → IsTrue (is_directory r.kind)
+        → is_among (all_seen (top ∷ []) visits) r.id ≡ false }
+    ensures single { (t : Tables) (whole : Tree) (top : ℕ) (visits : List Visit) (l : Level) (levels : List Level) (e : NamedEntry) (r : Inode) → IsValid t → Represents t whole
+        → IsWellFormed whole → IsTrue (has_inode is_directory t top) → HasCome t whole top visits (l ∷ levels)
+        → find (is_past by_entry_name l.last) (named_entries t l.directory) ≡ Some e → inode_at t e.row.inode ≡ Some r → r.refcount ≡ 1
+        → is_among (all_seen (top ∷ []) visits) r.id ≡ false }
+{}

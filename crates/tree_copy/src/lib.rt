@@ -6,5 +6,6 @@ mod walk;
 
 pub use laws::{
     copied_names_leave_valid_tables, copied_trees_are_steps, copy_walks_come_to_all,
-    partial_copies_come_to_be_whole, walks_go_on_node_by_node,
+    directories_and_single_links_are_seen_first, partial_copies_come_to_be_whole,
+    walks_go_on_node_by_node,
 };
