@@ -253,6 +253,17 @@ none_below u p x id low n (r ∷ rows) good less =
     ap (λ b. cond b (Some r) (find (λ (y : InodeBlock). y.blockno == n) rows)) (false_from_ne_true (r.blockno == n) (λ is. omega (arith, eqb-true r.blockno n is, less, good.1)))
     ∙ none_below u p x id (r.blockno + 1) n rows good.4 (omega (arith, less, good.1))
 
+-- one place more
+HasFile-more : (told u : Tables) (p : Parameters) (id : ℕ) (r : InodeBlock) (rows old : List InodeBlock) (w : Tables)
+    → ((i n : ℕ) → i ≢ id → row_at by_spot (i, n) (put by_spot (moved_place id r) old) ≡ row_at by_spot (i, n) old)
+    → ((n : ℕ) → option_or (row_in id rows n) (row_at by_spot (id, n) (put by_spot (moved_place id r) old)) ≡ option_or (row_in id (r ∷ rows) n) (row_at by_spot (id, n) old))
+    → HasFile told u p id rows (put by_spot (moved_place id r) old) w → HasFile told u p id (r ∷ rows) old w
+HasFile-more told u p id r rows old w others own file = record {
+  placing = file.placing;
+  others = λ i n apart. file.others i n apart ∙ others i n apart;
+  own = λ n. file.own n ∙ own n;
+}
+
 module _ (told u : Tables) (p : Parameters) (x id : ℕ) where
   file_placed : (rows : List InodeBlock) (low : ℕ) (w : Tables) (is : IsPlacing told u p w) → FileRows u p x id low rows → NoneFrom is.places id low
       → IsTrue (file_fits id rows w) → HasFile told u p id rows is.places (tables_after (file_copied id rows w) w)
@@ -270,11 +281,7 @@ module _ (told u : Tables) (p : Parameters) (x id : ℕ) where
       file_placed rows (r.blockno + 1) next (placed told u p id r w is free good.2 good.3 b.0 b.1 b.2) good.4
       (λ n least. other id n (λ own same. omega (arith, same, least)) ∙ none n (omega (arith, least, good.1))) parts.1 in
       subst (λ (y : Tables). HasFile told u p id (r ∷ rows) is.places y) (tables_after-tables_after (place_copied id r w) (file_copied id rows next) w)
-      (record {
-        placing = rest.placing;
-        others = λ i n apart. rest.others i n apart ∙ other i n (λ own same. apart own);
-        own = λ n. rest.own n ∙ own_at n (r.blockno == n) refl;
-      })
+      (HasFile-more told u p id r rows is.places (tables_after (file_copied id rows next) next) (λ i n apart. other i n (λ own same. apart own)) (λ n. own_at n (r.blockno == n) refl) rest)
     where
       other_key : (i n : ℕ) → (i ≡ id → n ≡ r.blockno → ⊥) → has_key by_spot (i, n) (moved_place id r) ≡ false
       other_key i n apart =
