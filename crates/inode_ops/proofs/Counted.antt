@@ -18,8 +18,8 @@ use Rattle.s3_rows.specs.Tables.{Tables, IsOrdered}
 use Rattle.s3_rows.specs.Selections.{is_row_past, rows_of, page_of, fits_key}
 use Rattle.s3_rows.specs.Told.{key_of_row, rows_rise, is_row_of, is_page_of}
 use Rattle.row_lemmas.proofs.Tests.{list_all_weaker}
-use Rattle.inode_ops.specs.declared.statfs.Tally.{Tally}
-use Rattle.inode_ops.specs.Tallies.{bytes_of_row, with_row, with_rows, IsCounted, is_short, has_short_key}
+use Rattle.inode_ops.specs.declared.counting.Tally.{Tally}
+use Rattle.inode_ops.specs.Tallies.{weight_of_row, with_row, with_rows, IsCounted, is_short, has_short_key}
 use Rattle.inode_ops.proofs.Walked.{key_past, past_is, rest_past, table_rises}
 
 -- ---- what is counted, and what is left
@@ -27,21 +27,21 @@ use Rattle.inode_ops.proofs.Walked.{key_past, past_is, rest_past, table_rises}
 -- the rows that are counted and those past the last of them are all rows, as far as a number holds it
 pub record IsPartly (all : List Row) (c : Tally) : Type 0 where
   pub rows : at_most_u64 (c.rows + length (filter (is_row_past c.after) all)) ≡ at_most_u64 (length all)
-  pub bytes : at_most_u64 (c.bytes + sum_by bytes_of_row (filter (is_row_past c.after) all)) ≡ at_most_u64 (sum_by bytes_of_row all)
+  pub weight : at_most_u64 (c.weight + sum_by weight_of_row (filter (is_row_past c.after) all)) ≡ at_most_u64 (sum_by weight_of_row all)
   pub few : c.rows < 2 ^ 64
-  pub fit : c.bytes < 2 ^ 64
+  pub fit : c.weight < 2 ^ 64
 
 one_row : (all rest : List Row) (c : Tally) (x : Row) → IsTrue (rows_rise all) → IsPartly all c → filter (is_row_past c.after) all ≡ x ∷ rest
     → IsPartly all (with_row c x) × (filter (is_row_past (key_of_row x)) all ≡ rest)
 one_row all rest c x rise partly left =
     let next : filter (is_row_past (key_of_row x)) all ≡ rest = rest_past c.after all rest x rise left in
     let count : at_most_u64 (c.rows + length (x ∷ rest)) ≡ at_most_u64 (length all) = ap (λ (xs : List Row). at_most_u64 (c.rows + length xs)) (sym left) ∙ partly.rows in
-    let size : at_most_u64 (c.bytes + sum_by bytes_of_row (x ∷ rest)) ≡ at_most_u64 (sum_by bytes_of_row all) = ap (λ (xs : List Row). at_most_u64 (c.bytes + sum_by bytes_of_row xs)) (sym left) ∙ partly.bytes in
+    let size : at_most_u64 (c.weight + sum_by weight_of_row (x ∷ rest)) ≡ at_most_u64 (sum_by weight_of_row all) = ap (λ (xs : List Row). at_most_u64 (c.weight + sum_by weight_of_row xs)) (sym left) ∙ partly.weight in
     let one_more : at_most_u64 (at_most_u64 (c.rows + 1) + length rest) ≡ at_most_u64 (c.rows + length (x ∷ rest)) = omega arith in
-    let more : at_most_u64 (at_most_u64 (c.bytes + bytes_of_row x) + sum_by bytes_of_row rest) ≡ at_most_u64 (c.bytes + sum_by bytes_of_row (x ∷ rest)) = omega (arith, sum_by-cons bytes_of_row x rest) in (
+    let more : at_most_u64 (at_most_u64 (c.weight + weight_of_row x) + sum_by weight_of_row rest) ≡ at_most_u64 (c.weight + sum_by weight_of_row (x ∷ rest)) = omega (arith, sum_by-cons weight_of_row x rest) in (
       record {
         rows = ap (λ (xs : List Row). at_most_u64 (at_most_u64 (c.rows + 1) + length xs)) next ∙ one_more ∙ count;
-        bytes = ap (λ (xs : List Row). at_most_u64 (at_most_u64 (c.bytes + bytes_of_row x) + sum_by bytes_of_row xs)) next ∙ more ∙ size;
+        weight = ap (λ (xs : List Row). at_most_u64 (at_most_u64 (c.weight + weight_of_row x) + sum_by weight_of_row xs)) next ∙ more ∙ size;
         few = omega arith;
         fit = omega arith;
       },
@@ -77,7 +77,7 @@ all_counted t table c page max some partly is none =
     let left : List Row = filter (is_row_past c.after) (rows_of t table) in
     let no_more : left ≡ [] = none_taken max left some (ap length (sym is) ∙ none) in
     let count : at_most_u64 (c.rows + 0) ≡ at_most_u64 (length (rows_of t table)) = ap (λ (xs : List Row). at_most_u64 (c.rows + length xs)) (sym no_more) ∙ partly.rows in
-    let size : at_most_u64 (c.bytes + 0) ≡ at_most_u64 (sum_by bytes_of_row (rows_of t table)) = ap (λ (xs : List Row). at_most_u64 (c.bytes + sum_by bytes_of_row xs)) (sym no_more) ∙ partly.bytes in
+    let size : at_most_u64 (c.weight + 0) ≡ at_most_u64 (sum_by weight_of_row (rows_of t table)) = ap (λ (xs : List Row). at_most_u64 (c.weight + sum_by weight_of_row xs)) (sym no_more) ∙ partly.weight in
     (omega (arith, count, partly.few), omega (arith, size, partly.fit))
 
 all_past_start : (xs : List Row) → filter (is_row_past keys.Start) xs ≡ xs
@@ -94,14 +94,14 @@ all_past_start (rows.Slot r ∷ xs) = ap (λ ys. rows.Slot r ∷ ys) (all_past_s
 
 -- nothing is counted at first
 abbrev pub no_rows : Tally
-no_rows = record { rows = 0; bytes = 0; after = keys.Start }
+no_rows = record { rows = 0; weight = 0; after = keys.Start }
 
 pub none_yet : (all : List Row) → IsPartly all no_rows
 none_yet all =
     let left : filter (is_row_past keys.Start) all ≡ all = all_past_start all in
     record {
       rows = ap (λ (xs : List Row). at_most_u64 (0 + length xs)) left ∙ omega arith;
-      bytes = ap (λ (xs : List Row). at_most_u64 (0 + sum_by bytes_of_row xs)) left ∙ omega arith;
+      weight = ap (λ (xs : List Row). at_most_u64 (0 + sum_by weight_of_row xs)) left ∙ omega arith;
       few = omega arith;
       fit = omega arith;
     }

@@ -27,8 +27,8 @@ use Rattle.tree_rows.specs.Shapes.{ContentShape, NodeShape, TreeShape, shape_of_
 use Rattle.tree_rows.proofs.Listed.{named, is_in, filter_map-with_entry_name, differ-named}
 use Rattle.tree_rows.proofs.Whole.{content_of_kind}
 use Rattle.ref_counts.specs.Plans.{IsPlanOf}
-use Rattle.inode_ops.specs.declared.statfs.Tally.{Tally}
-use Rattle.inode_ops.specs.Tallies.{IsCounted, bytes_of_row}
+use Rattle.inode_ops.specs.declared.counting.Tally.{Tally}
+use Rattle.inode_ops.specs.Tallies.{IsCounted, weight_of_row}
 use Rattle.inode_ops.proofs.Planned.{idle_planned}
 use Rattle.ref_counts.specs.Answers.{answer_plan}
 use Rattle.op_frames.specs.declared.reply.Reply.{Reply}
@@ -86,12 +86,12 @@ module _ (t : Tables) (whole : Tree) (same : Represents t whole) where
 
   -- ---- bytes
 
-  pub bytes_are : byte_count whole ≡ sum_by bytes_of_row (rows_of t tables.Inodes)
+  pub bytes_are : byte_count whole ≡ sum_by weight_of_row (rows_of t tables.Inodes)
   bytes_are =
       let by_shape : Inode → ℕ = λ r. bytes_in_shape (node_of_row t r).content in
-      let by_row : Inode → ℕ = λ r. bytes_of_row (rows.Inode r) in
+      let by_row : Inode → ℕ = λ r. weight_of_row (rows.Inode r) in
       let each : by_shape ≡ by_row = λ i r. bytes_of_kind r r.kind i in
-      over_rows bytes_in bytes_in_shape bytes_alike ∙ ap (λ (h : Inode → ℕ). sum_by h t.inodes) each ∙ sym (sum_by-map bytes_of_row rows.Inode t.inodes)
+      over_rows bytes_in bytes_in_shape bytes_alike ∙ ap (λ (h : Inode → ℕ). sum_by h t.inodes) each ∙ sym (sum_by-map weight_of_row rows.Inode t.inodes)
     where
       bytes_of_kind : (r : Inode) (kind : Kind) → bytes_in_shape (content_of_kind t r kind) ≡ cond (is_regular kind) r.size 0
       bytes_of_kind r kinds.Directory = refl
@@ -180,11 +180,11 @@ entries_are t whole v same = entries_are_rows t v.rows.entries v.tree.unlike v.o
 
 pub stat_planned : (t : Tables) (whole : Tree) (pass now block_size : ℕ) (inodes entries : Tally) (replied : Result Reply Errno) → IsValid t → Represents t whole
     → block_size ≡ unwrap_or (option_map (λ p. p.block_size) t.params) 0 → IsCounted (rows_of t tables.Inodes) inodes → IsCounted (rows_of t tables.Contents) entries
-    → replied ≡ Ok (replies.Stat block_size inodes.rows entries.rows inodes.bytes) → IsPlanOf t whole pass ops.Statfs now (answer_plan replied)
+    → replied ≡ Ok (replies.Stat block_size inodes.rows entries.rows inodes.weight) → IsPlanOf t whole pass ops.Statfs now (answer_plan replied)
 stat_planned t whole pass now block_size inodes entries replied v same size of_inodes of_entries is =
     let sizes : block_size ≡ whole.block_size = size ∙ ap (λ (s : TreeShape). s.block_size) same in
     let nodes : inodes.rows ≡ at_most_u64 (length whole.nodes) = of_inodes.0 ∙ ap at_most_u64 (sym (nodes_are t whole same)) in
     let names : entries.rows ≡ at_most_u64 (entry_count whole) = of_entries.0 ∙ ap at_most_u64 (sym (entries_are t whole v same)) in
-    let bytes : inodes.bytes ≡ at_most_u64 (byte_count whole) = of_inodes.1 ∙ ap at_most_u64 (sym (bytes_are t whole same)) in
+    let bytes : inodes.weight ≡ at_most_u64 (byte_count whole) = of_inodes.1 ∙ ap at_most_u64 (sym (bytes_are t whole same)) in
     subst (λ (r : Result Reply Errno). IsPlanOf t whole pass ops.Statfs now (answer_plan r)) (sym is)
-    (idle_planned t whole pass ops.Statfs now (Ok (replies.Stat block_size inodes.rows entries.rows inodes.bytes)) None v same refl refl (λ i. replies.Stat (sizes i) (nodes i) (names i) (bytes i)) refl refl)
+    (idle_planned t whole pass ops.Statfs now (Ok (replies.Stat block_size inodes.rows entries.rows inodes.weight)) None v same refl refl (λ i. replies.Stat (sizes i) (nodes i) (names i) (bytes i)) refl refl)

@@ -3,11 +3,14 @@
 
 mod answers;
 mod attributes;
+mod counting;
 mod handles_of;
 mod plans;
 mod reading;
+mod row_stats;
 mod statfs;
 mod symlink;
 mod xattrs;
 
 pub use plans::plan;
+pub use row_stats::{RowStats, stats};

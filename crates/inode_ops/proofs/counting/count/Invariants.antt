@@ -4,7 +4,7 @@ use Rattle.s3_rows.specs.Selections.{fits_key, rows_of}
 use Rattle.s3_rows.specs.Told.{IfTold}
 use Rattle.inode_ops.specs.Tallies.{is_short}
 use Rattle.inode_ops.proofs.Counted.{IsPartly, left_after}
-use Rattle.inode_ops.proofs.statfs.count.Given as goal
+use Rattle.inode_ops.proofs.counting.count.Given as goal
 
 -- the keeper tells what it did, and what is counted and what is left is all
 abbrev pub invariant-pages : goal.invariant-pages

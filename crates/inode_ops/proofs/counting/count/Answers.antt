@@ -5,7 +5,7 @@ use Rattle.s3_rows.specs.Selections.{rows_of, page_of}
 use Rattle.s3_rows.specs.Told.{Told, IfTold, is_page_of}
 use Rattle.ref_counts.proofs.Told.{IfTold-weaker2, IfTold-all}
 use Rattle.inode_ops.proofs.Counted.{IsPartly, page_counted, all_counted, none_yet, page_nearer, page_fits, page_short}
-use Rattle.inode_ops.proofs.statfs.count.Goals as goal
+use Rattle.inode_ops.proofs.counting.count.Goals as goal
 
 pub pages-init : goal.pages-init
 pages-init g c = record {
