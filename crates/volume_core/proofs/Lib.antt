@@ -14,4 +14,5 @@ mod Occurring
 mod Opened
 mod Standing
 mod Successes
+mod TableCounts
 mod FewerRows

@@ -6,3 +6,4 @@ pub mod Plans
 pub mod Refusals
 pub mod Rows
 pub mod Standing
+pub mod Stats

@@ -9,6 +9,8 @@ mod operations;
 mod refusal;
 mod row_core;
 mod rows;
+mod stats;
 
+pub use inode_ops::RowStats;
 pub use laws::made_tables_are_ready;
 pub use row_core::{OpenFault, RowCore};
