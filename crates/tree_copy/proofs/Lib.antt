@@ -6,6 +6,7 @@ pub mod CopiedTrees
 pub mod CopyCome
 pub mod FirstVisits
 pub mod NewCopies
+pub mod NextAttrs
 pub mod NextPlaces
 pub mod PartialSteps
 pub mod SameEntries

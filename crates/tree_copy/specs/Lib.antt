@@ -1,3 +1,4 @@
+pub mod CopiedNames
 pub mod CopiedPlaces
 pub mod CopiedRows
 pub mod CopyLevels

@@ -2,6 +2,7 @@
 #![tactic(auto)]
 
 mod laws;
+mod names;
 mod places;
 mod walk;
 
@@ -10,4 +11,5 @@ pub use laws::{
     directories_and_single_links_are_seen_first, partial_copies_come_to_be_whole,
     walks_go_on_node_by_node,
 };
+pub use names::copy_attrs;
 pub use places::copy_places;
