@@ -5,14 +5,15 @@ ghost use Rattle.op_frames.specs.Operations.{is_op};
 use crate::calls::frame_of;
 use crate::preparing::prepare;
 use crate::replies::reply_text;
-use case_words::{bytes_of, verb_of};
+use case_words::{bytes_of, numbers_behind, verb_of};
 use mem_keeper::MemKeeper;
 use mem_link::MemLink;
 use op_frames::{Op, Reply, Step, decode_call};
 use s3_base::ByteList;
+use s3_rows::KeeperFault;
 use std::alloc::{AllocError, Global};
 use std::mem;
-use volume_core::{OpenFault, RowCore};
+use volume_core::{OpenFault, RowCore, RowStats};
 
 /// The keeper of a case, until a core is opened over it.
 #[derive(Drop)]
@@ -68,6 +69,30 @@ fn call(
     }
 }
 
+/// The numbers of the core's tables. Nothing is said of them here, so that proofs of what prints them have nothing to go through.
+fn counted(core: &mut RowCore<MemKeeper>) -> Result<RowStats, KeeperFault> {
+    core.stats()
+}
+
+/// The numbers of the tables in words: inodes, entries, links to blocks, blocks, objects, and those that no block has.
+fn stats_text(alloc: Global, core: &mut RowCore<MemKeeper>) -> Result<String, AllocError> {
+    match counted(core) {
+        Ok(stats) => numbers_behind(
+            alloc,
+            "stats",
+            &[
+                stats.inodes,
+                stats.entries,
+                stats.links,
+                stats.blocks,
+                stats.objects,
+                stats.free,
+            ],
+        ),
+        Err(_) => String::from_str(alloc, "fault"),
+    }
+}
+
 /// The longest key that a step may name, in bytes.
 const LONGEST_KEY: usize = 64;
 
@@ -98,7 +123,10 @@ pub fn step(
         return String::from_str(alloc, hold(alloc, link, words)?);
     }
     match served {
-        Served::Open(core) => call(alloc, core, link, text),
+        Served::Open(core) => match text.trim_ascii() {
+            "stats" => stats_text(alloc, core),
+            _ => call(alloc, core, link, text),
+        },
         Served::Shut(keeper) => {
             if text.trim_ascii() != "mount" {
                 return prepare(alloc, keeper, text);
