@@ -8,6 +8,7 @@ pub mod FirstVisits
 pub mod NewCopies
 pub mod NextAttrs
 pub mod NextPlaces
+pub mod NextRows
 pub mod PartialSteps
 pub mod SameEntries
 pub mod Stands

@@ -77,11 +77,11 @@ raised_unique u name more up unique is = by_found (name_of_bytes u name) refl u.
     by_found None found None row = absurd (cc row)
     by_found None found (Some p) row = by_next p found (nat_lt p.next_name (2 ^ 62)) row
 
-StaysUnique-append : (a b : List Change) (t : Tables) → StaysUnique a t → StaysUnique b (tables_after a t) → StaysUnique (a ++ b) t
+pub StaysUnique-append : (a b : List Change) (t : Tables) → StaysUnique a t → StaysUnique b (tables_after a t) → StaysUnique (a ++ b) t
 StaysUnique-append [] b t first second = second
 StaysUnique-append (c ∷ a) b t first second = (first.0, StaysUnique-append a b (after_change c t) first.1 second)
 
-unique_end : (a : List Change) (t : Tables) → StaysUnique a t → HasUniqueNames (tables_after a t)
+pub unique_end : (a : List Change) (t : Tables) → StaysUnique a t → HasUniqueNames (tables_after a t)
 unique_end [] t unique = unique
 unique_end (c ∷ a) t unique = unique_end a (after_change c t) unique.1
 
@@ -106,14 +106,18 @@ pub use_fits : (found : Option Raised) (before after : List Change) (answer : Op
 use_fits None before after answer is = ap is_some is.0
 use_fits (Some more) before after answer is = ap is_some is.0
 
+-- a row that has the id of the name comes behind its use
+pub use_added : (found : Option Raised) (before middle after : List Change) (id : ℕ) (row : ℕ → Change) → IsRaised found before (Some id) middle
+    → after ≡ middle ++ row id ∷ [] → after ≡ before ++ with_use found (λ name_id. row name_id ∷ [])
+use_added None before middle after id row is added = absurd (cc is.0)
+use_added (Some more) before middle after id row is added =
+    let same : id ≡ more.id = cc is.0 in
+    added ∙ ap (λ k. middle ++ row k ∷ []) same ∙ ap (λ (b : List Change). b ++ row more.id ∷ []) is.1 ∙ append_assoc before more.changes (row more.id ∷ [])
+
 pub attr_added : (found : Option Raised) (before middle after : List Change) (id copy : ℕ) (a : NamedAttr) → IsRaised found before (Some id) middle
     → after ≡ middle ++ changes.PutAttr (record { inode = copy; name_id = id; value = a.row.value }) ∷ []
     → after ≡ before ++ with_use found (λ name_id. changes.PutAttr (record { inode = copy; name_id = name_id; value = a.row.value }) ∷ [])
-attr_added None before middle after id copy a is added = absurd (cc is.0)
-attr_added (Some more) before middle after id copy a is added =
-    let same : id ≡ more.id = cc is.0 in
-    let last : ℕ → List Change = λ k. changes.PutAttr (record { inode = copy; name_id = k; value = a.row.value }) ∷ [] in
-    added ∙ ap (λ k. middle ++ last k) same ∙ ap (λ (b : List Change). b ++ last more.id) is.1 ∙ append_assoc before more.changes (last more.id)
+attr_added found before middle after id copy a = use_added found before middle after id (λ k. changes.PutAttr (record { inode = copy; name_id = k; value = a.row.value }))
 
 -- ---- a page of one
 

@@ -4,6 +4,7 @@
 mod laws;
 mod names;
 mod places;
+mod rows;
 mod walk;
 
 pub use laws::{
@@ -13,3 +14,4 @@ pub use laws::{
 };
 pub use names::copy_attrs;
 pub use places::copy_places;
+pub use rows::{copy_entry, copy_node};
