@@ -9,6 +9,7 @@ pub mod NewCopies
 pub mod NextAttrs
 pub mod NextPlaces
 pub mod NextRows
+pub mod NextVisits
 pub mod PartialSteps
 pub mod SameEntries
 pub mod Stands

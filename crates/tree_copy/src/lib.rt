@@ -1,12 +1,14 @@
 //! Copies of trees.
 #![tactic(auto)]
 
+mod entries;
 mod laws;
 mod names;
 mod places;
 mod rows;
 mod walk;
 
+pub use entries::{CopySpot, copy_visit};
 pub use laws::{
     copied_names_leave_valid_tables, copied_trees_are_steps, copy_walks_come_to_all,
     directories_and_single_links_are_seen_first, partial_copies_come_to_be_whole,
