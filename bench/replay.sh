@@ -1,6 +1,6 @@
 #!/usr/bin/env bash
 # Times the built program: 200,000 and 400,000 Write and Read calls over 50 files, beside `cat` of the same input, with the peak of
-# its memory, which is not to grow with the number of calls; then 20 calls (Create, Write, Read, Getattr, Utimes, Truncate) on each
+# its memory, which grows by the objects of blocks that were written over, since nothing takes them away yet; then 20 calls (Create, Write, Read, Getattr, Utimes, Truncate) on each
 # of 1,000, 9,000 and 10,000 files of one directory, to compare the last tenth of the files with the first. It writes to files of a
 # temporary folder, and needs python3 to make the input and /proc for the peak.
 set -eu
