@@ -1,0 +1,6 @@
+pub mod Greatest
+pub mod Loops
+pub mod MovedNames
+pub mod Removed
+pub mod Searches
+pub mod Taken

@@ -1,5 +1,6 @@
 pub mod Entries
-pub mod Loops
-pub mod Moves
+pub mod Made
+pub mod Numbers
 pub mod Pass
+pub mod Steps
 pub mod Worked

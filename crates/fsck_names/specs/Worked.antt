@@ -1,41 +1,25 @@
--- Damaged tables, on which the pass is worked by hand. All of them are a made file system with some rows more or changed.
-use Rattle.std.specs.Prelude.{ℕ, ◌-◌, ◌^◌, List, [], ◌∷◌, codes, map, Option, Some, option_map}
+-- Tables that are not as they should be, on which the pass is tried.
+use Rattle.std.specs.Prelude.{ℕ, List, [], ◌∷◌, Option, Some, option_map, map, codes}
 use Rattle.s3_base.specs.declared.node_kind.Kind.TheVariants as kinds
-use Rattle.s3_rows.specs.Rows.{Inode, Content, Name, Parameters}
+use Rattle.s3_rows.specs.declared.change.Change.{Change}
+use Rattle.s3_rows.specs.Rows.{Inode, Name, Content}
 use Rattle.s3_rows.specs.Tables.{Tables}
+use Rattle.s3_rows.specs.Batches.{tables_after}
+use Rattle.s3_rows.specs.Validity.{lost_and_found}
 use Rattle.s3_rows.specs.Made.{made_tables, made_parameters, made_directory}
 use Rattle.fsck_findings.specs.Line.{line_of}
-use Rattle.fsck_findings.specs.Work.{Work}
-use Rattle.fsck_names.specs.Pass.{repaired_names}
-
--- the parameters of these tables
-abbrev pub made : Parameters
-made = record (made_parameters 4096 8) { next_inode = 9; next_name = 9 }
-
-abbrev pub pass_over : Tables → Option Work
-pass_over t = repaired_names made (record t { params = Some made })
-
--- the lines of the pass
-abbrev pub lines : Tables → Option (List (List ℕ))
-lines t = option_map (λ w. map line_of w.findings) (pass_over t)
-
--- the entries after it
-abbrev pub entries_after : Tables → Option (List Content)
-entries_after t = option_map (λ w. w.tables.contents) (pass_over t)
-
-abbrev pub names_after : Tables → Option (List Name)
-names_after t = option_map (λ w. w.tables.names) (pass_over t)
+use Rattle.fsck_names.specs.Pass.{pass_on_names}
 
 -- ---- rows
 
-abbrev pub directory : ℕ → Inode
-directory id = made_directory id 493 5
+abbrev pub directory : ℕ → ℕ → Inode
+directory id count = record (made_directory id 493 0) { refcount = count }
 
-abbrev pub file : ℕ → Inode
-file id = record (made_directory id 420 5) { kind = kinds.Regular }
+abbrev pub file : ℕ → ℕ → Inode
+file id count = record (directory id count) { kind = kinds.Regular }
 
 abbrev pub link : ℕ → Inode
-link id = record (made_directory id 511 5) { kind = kinds.Link }
+link id = record (directory id 1) { kind = kinds.Link }
 
 abbrev pub name : ℕ → List ℕ → Name
 name id bytes = record { id = id; refcount = 1; name = bytes }
@@ -43,63 +27,93 @@ name id bytes = record { id = id; refcount = 1; name = bytes }
 abbrev pub entry : ℕ → ℕ → ℕ → Content
 entry parent name_id inode = record { parent = parent; name_id = name_id; inode = inode }
 
-abbrev pub with_rows : List Inode → List Name → List Content → Tables
-with_rows inodes names contents = record (made_tables 4096 8 5) {
-  inodes = directory 1 ∷ record (directory 2) { mode = 448 } ∷ inodes;
-  names = name 1 (codes "lost+found") ∷ names;
-  contents = entry 1 1 2 ∷ contents;
+-- tables with these inodes, names and entries, and these numbers next
+abbrev pub tables_of : List Inode → List Name → List Content → ℕ → ℕ → Tables
+tables_of inodes names contents next_inode next_name = record (made_tables 4096 8 0) {
+  params = Some (record (made_parameters 4096 8) { next_inode = next_inode; next_name = next_name });
+  inodes = inodes;
+  names = names;
+  contents = contents;
 }
+
+-- a made file system, and these beside it
+abbrev pub beside_made : List Inode → List Name → List Content → ℕ → ℕ → Tables
+beside_made inodes names contents next_inode next_name =
+    tables_of (directory 1 1 ∷ directory 2 1 ∷ inodes) (name 1 lost_and_found ∷ names) (entry 1 1 2 ∷ contents) next_inode next_name
+
+-- ---- what the pass makes of them
+
+-- the lines of the pass
+abbrev pub lines_of : Tables → Option (List (List ℕ))
+lines_of t = option_map (λ made. map line_of made.found) (pass_on_names t)
+
+abbrev pub batch_of : Tables → Option (List Change)
+batch_of t = option_map (λ made. made.batch) (pass_on_names t)
+
+-- the tables after the pass
+abbrev pub after_pass : Tables → Option Tables
+after_pass t = option_map (λ made. tables_after made.batch t) (pass_on_names t)
 
 -- ---- tables
 
--- three directories in a loop
-abbrev pub loop_of_three : Tables
-loop_of_three = with_rows (directory 3 ∷ directory 4 ∷ directory 5 ∷ [])
-    (name 2 (codes "a") ∷ name 3 (codes "b") ∷ name 4 (codes "c") ∷ []) (entry 3 2 4 ∷ entry 4 3 5 ∷ entry 5 4 3 ∷ [])
+-- a file as a directory, an absent name, an absent inode, a name with a slash, the root's own number, and a name of one point
+abbrev pub entries_out_of_place : Tables
+entries_out_of_place =
+    beside_made (file 3 2 ∷ []) (name 2 (codes ".") ∷ name 3 (codes "a/b") ∷ name 4 (codes "c") ∷ [])
+    (entry 1 2 3 ∷ entry 1 3 3 ∷ entry 1 4 3 ∷ entry 1 9 3 ∷ entry 2 4 1 ∷ entry 2 5 3 ∷ entry 2 90 3 ∷ entry 3 4 2 ∷ entry 8 4 77 ∷ []) 4 5
 
--- two entries of the root with equal bytes under two name ids
+-- two files of one name in the root
 abbrev pub one_name_twice : Tables
-one_name_twice = with_rows (file 3 ∷ file 4 ∷ []) (name 2 (codes "a") ∷ name 3 (codes "a") ∷ []) (entry 1 2 3 ∷ entry 1 3 4 ∷ [])
+one_name_twice =
+    beside_made (file 3 1 ∷ file 4 1 ∷ []) (name 2 (codes "a") ∷ name 3 (codes "a") ∷ []) (entry 1 2 3 ∷ entry 1 3 4 ∷ []) 5 4
 
--- the root is a file
-abbrev pub root_is_a_file : Tables
-root_is_a_file = record (with_rows [] [] []) { inodes = file 1 ∷ directory 2 ∷ [] }
+-- the root is a file, and names lost+found
+abbrev pub root_is_file : Tables
+root_is_file = tables_of (file 1 1 ∷ directory 2 1 ∷ []) (name 1 lost_and_found ∷ []) (entry 1 1 2 ∷ []) 3 2
 
--- `lost+found` is a file
-abbrev pub lost_and_found_is_a_file : Tables
-lost_and_found_is_a_file = record (with_rows [] [] []) { inodes = directory 1 ∷ file 2 ∷ [] }
+-- no rows at all
+abbrev pub no_rows : Tables
+no_rows = tables_of [] [] [] 1 1
 
--- no entry `lost+found`
-abbrev pub lost_and_found_is_missing : Tables
-lost_and_found_is_missing = record (with_rows [] [] []) { contents = [] }
+-- lost+found is a file
+abbrev pub file_for_lost_and_found : Tables
+file_for_lost_and_found = tables_of (directory 1 1 ∷ file 2 1 ∷ []) (name 1 lost_and_found ∷ []) (entry 1 1 2 ∷ []) 3 2
 
--- a directory that the root and `lost+found` name
-abbrev pub directory_named_twice : Tables
-directory_named_twice = with_rows (directory 3 ∷ []) (name 2 (codes "a") ∷ []) (entry 1 2 3 ∷ entry 2 2 3 ∷ [])
+-- lost+found has a directory that has lost+found
+abbrev pub lost_and_found_in_loop : Tables
+lost_and_found_in_loop =
+    tables_of (directory 1 1 ∷ directory 2 1 ∷ directory 3 1 ∷ []) (name 1 lost_and_found ∷ name 2 (codes "d") ∷ []) (entry 2 2 3 ∷ entry 3 2 2 ∷ []) 4 3
 
--- a file without entry, while two of its names are taken
-abbrev pub names_are_taken : Tables
-names_are_taken = with_rows (file 3 ∷ file 4 ∷ file 5 ∷ [])
-    (name 2 (codes "inode-3") ∷ name 3 (codes "inode-3-1") ∷ []) (entry 2 2 4 ∷ entry 2 3 5 ∷ [])
+-- a directory with three entries
+abbrev pub directory_named_again : Tables
+directory_named_again =
+    beside_made (directory 3 3 ∷ []) (name 2 (codes "b") ∷ name 3 (codes "a") ∷ []) (entry 1 2 3 ∷ entry 1 3 3 ∷ entry 2 2 3 ∷ []) 4 4
 
--- a symbolic link without target
-abbrev pub link_without_target : Tables
-link_without_target = with_rows (link 3 ∷ []) (name 2 (codes "a") ∷ []) (entry 1 2 3 ∷ [])
+-- a ring of three directories outside the root, and one below it
+abbrev pub ring_of_three : Tables
+ring_of_three =
+    beside_made (directory 3 1 ∷ directory 4 1 ∷ directory 5 1 ∷ directory 6 1 ∷ []) (name 2 (codes "d") ∷ name 3 (codes "e") ∷ [])
+    (entry 3 2 5 ∷ entry 4 2 3 ∷ entry 5 2 4 ∷ entry 5 3 6 ∷ []) 7 4
 
--- a file and a directory with neither entry nor count
-abbrev pub nothing_names_them : Tables
-nothing_names_them = with_rows (record (file 3) { refcount = 0 } ∷ record (directory 4) { refcount = 0 } ∷ []) [] []
+-- a file without entry, the names of which are taken
+abbrev pub names_taken : Tables
+names_taken =
+    beside_made (file 3 1 ∷ file 4 2 ∷ []) (name 2 (codes "inode-3") ∷ name 3 (codes "inode-3-1") ∷ []) (entry 2 2 4 ∷ entry 2 3 4 ∷ []) 5 4
 
--- entries of what is absent, of a file, with a name that is not allowed, and of the root
-abbrev pub entries_that_dangle : Tables
-entries_that_dangle = with_rows (file 3 ∷ [])
-    (name 2 (codes "a") ∷ name 3 (codes ".") ∷ name 4 (codes "a/b") ∷ [])
-    (entry 1 2 3 ∷ entry 1 3 3 ∷ entry 1 4 3 ∷ entry 1 5 3 ∷ entry 1 6 7 ∷ entry 2 2 1 ∷ entry 3 2 3 ∷ entry 4 2 3 ∷ [])
+-- a link without target and its entry, and a link with a target and without entry
+abbrev pub links : Tables
+links = record (beside_made (link 3 ∷ link 4 ∷ []) (name 2 (codes "l") ∷ name 3 (codes "inode-4") ∷ []) (entry 1 2 3 ∷ []) 5 4) {
+  targets = record { inode = 4; target = codes "x" } ∷ [];
+}
 
--- a file without entry, while a row names the greatest name id
-abbrev pub no_name_is_left : Tables
-no_name_is_left = record (with_rows (file 3 ∷ []) [] []) { attrs = record { inode = 2; name_id = 2 ^ 62 - 1; value = [] } ∷ [] }
+-- a file and a directory without entry, both of count 0
+abbrev pub without_count : Tables
+without_count = beside_made (directory 3 0 ∷ file 4 0 ∷ []) (name 2 (codes "inode-3") ∷ []) [] 5 3
 
--- no `lost+found`, while a row names the greatest inode number
-abbrev pub no_inode_is_left : Tables
-no_inode_is_left = record lost_and_found_is_missing { targets = record { inode = 2 ^ 62 - 1; target = codes "t" } ∷ [] }
+-- a file without entry, and these numbers next
+abbrev pub lost_file : ℕ → ℕ → Tables
+lost_file next_inode next_name = beside_made (file 3 1 ∷ []) [] [] next_inode next_name
+
+-- a file that is to be moved beside the greatest name id
+abbrev pub greatest_name : Tables
+greatest_name = beside_made (file 3 1 ∷ []) (name 4611686018427387903 (codes "z") ∷ []) [] 4 2

@@ -1,53 +1,44 @@
-//! The pass over tables that are worked by hand. Each law is the contract of a function without a body.
-ghost use Rattle.std.specs.Prelude.{◌≡◌, [], ◌∷◌, None, Some, codes};
+//! Passes that are worked by hand. Each law is the contract of a function without a body.
+ghost use Rattle.std.specs.Prelude.{◌≡◌, ℕ, ◌-◌, ◌^◌, [], ◌∷◌, None, Some, codes};
+ghost use Rattle.std.specs.Option.{option_and_then};
+ghost use Rattle.s3_rows.specs.declared.change.Change.TheVariants as changes;
+ghost use Rattle.s3_rows.specs.Made.{made_tables, made_parameters};
 ghost use Rattle.s3_rows.specs.Worked.{directories_in_a_ring};
 ghost use Rattle.fsck_names.specs.Worked as worked;
-ghost use Rattle.fsck_names.specs.Worked.{lines, entries_after, names_after, with_rows, entry, name};
 
-/// Where nothing is wrong there is nothing to say.
-pub fn whole_names_stay()
-    ensures lines { lines (with_rows [] [] []) ≡ Some [] }
+/// Entries that go, and what they named.
+pub fn drops_worked_by_hand()
+    ensures made { worked.lines_of (made_tables 4096 8 0) ≡ Some [] }
+    ensures out_of_place { worked.lines_of worked.entries_out_of_place ≡ Some (codes "entry 1 2e dropped" ∷ codes "entry 1 612f62 dropped" ∷ codes "entry 1 - dropped" ∷ codes "entry 2 63 dropped" ∷ codes "entry 2 - dropped" ∷ codes "entry 2 - dropped" ∷ codes "entry 3 63 dropped" ∷ codes "entry 8 63 dropped" ∷ []) }
+    ensures one_name_twice { worked.lines_of worked.one_name_twice ≡ Some (codes "entry 1 61 dropped" ∷ codes "inode 4 moved" ∷ []) }
+    ensures named_again { worked.lines_of worked.directory_named_again ≡ Some (codes "entry 1 62 dropped" ∷ codes "entry 2 62 dropped" ∷ []) }
+    ensures ring_of_three { worked.lines_of worked.ring_of_three ≡ Some (codes "entry 4 64 dropped" ∷ codes "inode 3 moved" ∷ []) }
+    ensures loop_below_lost_and_found { worked.lines_of worked.lost_and_found_in_loop ≡ Some (codes "lost+found made" ∷ codes "entry 3 64 dropped" ∷ codes "inode 2 moved" ∷ []) }
+    ensures links { worked.lines_of worked.links ≡ Some (codes "inode 4 moved" ∷ codes "inode 3 removed" ∷ []) }
+    ensures without_count { worked.lines_of worked.without_count ≡ Some (codes "inode 3 moved" ∷ codes "inode 4 removed" ∷ []) }
 {}
 
-/// A loop is cut at the entry that names its least directory, which is moved.
-pub fn directories_keep_one_name()
-    ensures ring { lines directories_in_a_ring ≡ Some (codes "entry 4 62 dropped" ∷ codes "inode 3 moved" ∷ codes "inode 5 moved" ∷ []) }
-    ensures three { lines worked.loop_of_three ≡ Some (codes "entry 5 63 dropped" ∷ codes "inode 3 moved" ∷ []) }
-    ensures twice { lines worked.directory_named_twice ≡ Some (codes "entry 2 61 dropped" ∷ []) }
+/// A root and a `lost+found` that are made.
+pub fn roots_worked_by_hand()
+    ensures file { worked.lines_of worked.root_is_file ≡ Some (codes "entry 1 6c6f73742b666f756e64 dropped" ∷ codes "root made" ∷ codes "lost+found made" ∷ codes "inode 2 moved" ∷ []) }
+    ensures no_rows { worked.lines_of worked.no_rows ≡ Some (codes "root made" ∷ codes "lost+found made" ∷ []) }
+    ensures lost_and_found { worked.lines_of worked.file_for_lost_and_found ≡ Some (codes "entry 1 6c6f73742b666f756e64 dropped" ∷ codes "lost+found made" ∷ codes "inode 2 moved" ∷ []) }
 {}
 
-/// Entries that cannot stay go.
-pub fn entries_keep_one_name()
-    ensures doubled { lines worked.one_name_twice ≡ Some (codes "entry 1 61 dropped" ∷ codes "inode 4 moved" ∷ []) }
-    ensures dangling { lines worked.entries_that_dangle ≡ Some (
-        codes "entry 1 2e dropped" ∷ codes "entry 1 612f62 dropped" ∷ codes "entry 1 - dropped" ∷ codes "entry 1 - dropped"
-        ∷ codes "entry 2 61 dropped" ∷ codes "entry 3 61 dropped" ∷ codes "entry 4 61 dropped" ∷ []) }
-    ensures stays { entries_after worked.entries_that_dangle ≡ Some (entry 1 1 2 ∷ entry 1 2 3 ∷ []) }
+/// The batch of a pass, whose tables a second pass leaves as they are.
+pub fn batches_worked_by_hand()
+    ensures lines { worked.lines_of directories_in_a_ring ≡ Some (codes "entry 4 62 dropped" ∷ codes "inode 3 moved" ∷ codes "inode 5 moved" ∷ []) }
+    ensures batch { worked.batch_of directories_in_a_ring ≡ Some (changes.DeleteContent 4 3 ∷ changes.PutName (worked.name 4 (codes "inode-3")) ∷ changes.SetParams (record (made_parameters 4096 8) { next_inode = 6; next_name = 5 }) ∷ changes.PutContent (worked.entry 2 4 3) ∷ changes.PutName (worked.name 5 (codes "inode-5")) ∷ changes.SetParams (record (made_parameters 4096 8) { next_inode = 6; next_name = 6 }) ∷ changes.PutContent (worked.entry 2 5 5) ∷ []) }
+    ensures again { option_and_then worked.lines_of (worked.after_pass directories_in_a_ring) ≡ Some [] }
+    ensures taken { worked.batch_of worked.names_taken ≡ Some (changes.PutName (worked.name 4 (codes "inode-3-2")) ∷ changes.SetParams (record (made_parameters 4096 8) { next_inode = 5; next_name = 5 }) ∷ changes.PutContent (worked.entry 2 4 3) ∷ []) }
+    ensures count { worked.batch_of worked.without_count ≡ Some (changes.PutInode (worked.directory 3 1) ∷ changes.PutContent (worked.entry 2 2 3) ∷ changes.DeleteInode 4 ∷ []) }
+    ensures named_only { option_and_then worked.batch_of (worked.after_pass worked.entries_out_of_place) ≡ Some [] }
 {}
 
-/// The root and its `lost+found` are made anew, and what stood there is moved.
-pub fn root_and_lost_and_found_stand()
-    ensures root { lines worked.root_is_a_file ≡ Some (
-        codes "entry 1 6c6f73742b666f756e64 dropped" ∷ codes "root made" ∷ codes "lost+found made" ∷ codes "inode 2 moved" ∷ []) }
-    ensures file { lines worked.lost_and_found_is_a_file ≡ Some (
-        codes "entry 1 6c6f73742b666f756e64 dropped" ∷ codes "lost+found made" ∷ codes "inode 2 moved" ∷ []) }
-    ensures missing { lines worked.lost_and_found_is_missing ≡ Some (codes "lost+found made" ∷ codes "inode 2 moved" ∷ []) }
-    ensures entries { entries_after worked.lost_and_found_is_missing ≡ Some (entry 1 1 9 ∷ entry 9 9 2 ∷ []) }
-{}
-
-/// Inodes that no entry names are moved under a name that is free, or go where nothing counts them. A link without target goes with
-/// its entries.
-pub fn lost_inodes_are_moved()
-    ensures taken { lines worked.names_are_taken ≡ Some (codes "inode 3 moved" ∷ []) }
-    ensures name { names_after worked.names_are_taken ≡ Some (
-        name 1 (codes "lost+found") ∷ name 2 (codes "inode-3") ∷ name 3 (codes "inode-3-1") ∷ name 9 (codes "inode-3-2") ∷ []) }
-    ensures uncounted { lines worked.nothing_names_them ≡ Some (codes "inode 4 moved" ∷ codes "inode 3 removed" ∷ []) }
-    ensures link { lines worked.link_without_target ≡ Some (codes "inode 3 removed" ∷ []) }
-    ensures entries { entries_after worked.link_without_target ≡ Some (entry 1 1 2 ∷ []) }
-{}
-
-/// The pass gives nothing where it needs a number and none is left.
-pub fn numbers_run_out()
-    ensures names { lines worked.no_name_is_left ≡ None }
-    ensures inodes { lines worked.no_inode_is_left ≡ None }
+/// A number that is needed and is not left.
+pub fn worn_passes()
+    ensures last { worked.lines_of (worked.lost_file 4 (2 ^ 62 - 1)) ≡ Some (codes "inode 3 moved" ∷ []) }
+    ensures name { worked.lines_of (worked.lost_file 4 (2 ^ 62)) ≡ None }
+    ensures greatest { worked.lines_of worked.greatest_name ≡ None }
+    ensures not_needed { worked.lines_of (worked.tables_of (worked.directory 1 1 ∷ worked.directory 2 1 ∷ []) (worked.name 1 (codes "lost+found") ∷ []) (worked.entry 1 1 2 ∷ []) (2 ^ 62) (2 ^ 62)) ≡ Some [] }
 {}

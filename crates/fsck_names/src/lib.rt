@@ -1,9 +1,19 @@
-//! The pass of a check on names.
+//! The pass of a check on names: entries, loops of directories, the root and `lost+found`.
 #![tactic(auto)]
 
+mod drops;
+mod each;
+mod edits;
+mod entry_tests;
+mod inode_steps;
 mod laws;
+mod look_ups;
+mod moves;
+mod names;
+mod numbers;
+mod parents;
+mod roots;
+mod twins;
 
-pub use laws::{
-    directories_keep_one_name, entries_keep_one_name, lost_inodes_are_moved, numbers_run_out,
-    root_and_lost_and_found_stand, whole_names_stay,
-};
+pub use laws::{batches_worked_by_hand, drops_worked_by_hand, roots_worked_by_hand, worn_passes};
+pub use names::pass;
