@@ -5,6 +5,7 @@ use case_words::{bytes_of, named, verb_of};
 use mem_keeper::MemKeeper;
 use op_checks::check_attribute_name;
 use ref_counts::name_up;
+use row_words::batch_of;
 use s3_base::ByteList;
 use s3_rows::{Batch, Change, Keeper, KeeperFault, Params, State, made_batch};
 use std::alloc::{AllocError, Global};
@@ -83,11 +84,24 @@ fn make(alloc: Global, keeper: &mut MemKeeper) -> Result<&'static str, AllocErro
     Ok(commit(keeper, &batch))
 }
 
-/// What comes of a step: `make`, `state` with its word, or `use` with a name.
+/// Commits the changes in a text, whatever they make of the tables.
+fn commit_rows(
+    alloc: Global,
+    keeper: &mut MemKeeper,
+    text: &str,
+) -> Result<&'static str, AllocError> {
+    match batch_of(alloc, text)? {
+        Some(batch) => Ok(commit(keeper, &batch)),
+        None => Ok("no batch"),
+    }
+}
+
+/// What comes of a step: `make`, `commit` with its changes, `state` with its word, or `use` with a name.
 pub fn prepare(alloc: Global, keeper: &mut MemKeeper, text: &str) -> Result<String, AllocError> {
     let (verb, word) = verb_of(text);
     match verb {
         "make" => String::from_str(alloc, make(alloc, keeper)?),
+        "commit" => String::from_str(alloc, commit_rows(alloc, keeper, word)?),
         "state" => String::from_str(alloc, put_state(alloc, keeper, word)?),
         "use" => use_name(alloc, keeper, word),
         _ => String::from_str(alloc, "not mounted"),

@@ -1,8 +1,7 @@
 //! A keeper of given tables.
 
-use crate::changes::{name_row, params_of};
-use crate::fields::Fields;
 use mem_keeper::MemKeeper;
+use row_words::{Fields, name_row, params_of};
 use s3_base::Sequence;
 use s3_rows::{NameRow, Params, Tables};
 use std::alloc::{AllocError, Global};

@@ -2,10 +2,10 @@
 ghost use Rattle.std.specs.Prelude.{IsTrue, IfSome};
 ghost use Rattle.s3_rows.specs.Selections.{fits_key};
 
-use crate::fields::Fields;
 use crate::printing::{found_text, list_text};
 use case_words::{named, verb_of};
 use mem_keeper::MemKeeper;
+use row_words::Fields;
 use s3_rows::{Keeper, RowKey, TableName};
 use std::alloc::{AllocError, Global};
 
@@ -206,8 +206,11 @@ fn answer(
             list_text(alloc, keeper.slots(from, most))
         }
         LookUp::Page => page(alloc, keeper, fields),
-        LookUp::BlockByDigest => found_text(alloc, keeper.block_by_digest(&fields.digest(0))),
-        LookUp::Find => found_text(alloc, hash_index::find(keeper, &fields.digest(0))),
+        LookUp::BlockByDigest => found_text(
+            alloc,
+            keeper.block_by_digest(&fields.digest(alloc, 0)?),
+        ),
+        LookUp::Find => found_text(alloc, hash_index::find(keeper, &fields.digest(alloc, 0)?)),
         LookUp::ByOne(by) => by_one(alloc, keeper, by, fields.number(0)),
         LookUp::ByTwo(by) => by_two(alloc, keeper, by, fields.number(0), fields.number(1)),
     }

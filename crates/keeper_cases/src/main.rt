@@ -2,8 +2,6 @@
 //! the steps, with bars between. For each case one line is printed: its name, and what comes of each step.
 #![tactic(auto)]
 
-mod changes;
-mod fields;
 mod given;
 mod look_ups;
 mod printing;

@@ -1,11 +1,11 @@
 //! The steps of a case.
 
-use crate::changes::batch_of;
 use crate::given::keeper_of;
 use crate::look_ups::look_up;
 use crate::printing::fault_word;
 use case_words::verb_of;
 use mem_keeper::MemKeeper;
+use row_words::batch_of;
 use s3_rows::{Batch, Keeper};
 use std::alloc::{AllocError, Global};
 

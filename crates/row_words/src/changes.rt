@@ -52,14 +52,15 @@ fn inode_block_row(fields: &mut Fields) -> InodeBlockRow {
     }
 }
 
-fn block_row(fields: &mut Fields) -> BlockRow {
-    BlockRow {
+fn put_block(alloc: Global, fields: &mut Fields) -> Result<Option<Change>, AllocError> {
+    let digest = fields.digest(alloc, 1)?;
+    Ok(Some(Change::PutBlock(BlockRow {
         id: fields.id(0),
-        digest: fields.digest(1),
+        digest,
         refcount: fields.count(2),
         size: fields.block_size(3),
         object: fields.id(4),
-    }
+    })))
 }
 
 /// An object with its size.
@@ -148,7 +149,7 @@ fn put(alloc: Global, table: TableName, fields: &mut Fields) -> Result<Option<Ch
         TableName::Names => put_name(alloc, fields),
         TableName::Contents => Ok(Some(Change::PutContent(content_row(fields)))),
         TableName::InodeBlocks => Ok(Some(Change::PutInodeBlock(inode_block_row(fields)))),
-        TableName::Blocks => Ok(Some(Change::PutBlock(block_row(fields)))),
+        TableName::Blocks => put_block(alloc, fields),
         TableName::Objects => Ok(Some(Change::PutObject(object_row(fields)))),
         TableName::Targets => put_target(alloc, fields),
         TableName::Attrs => put_attr(alloc, fields),

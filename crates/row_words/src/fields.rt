@@ -3,6 +3,7 @@ ghost use Rattle.std.specs.Prelude.{◌<◌, ◌≤◌, ◌^◌, IfSome, IfOk, l
 ghost use Rattle.s3_rows.specs.Rows.{IsId, IsNext, IsText, IsBlockSize};
 
 use case_words::{Words, bytes_of, named};
+use hash_index::digest;
 use s3_base::{ByteList, Kind};
 use s3_rows::{Digest, State};
 use std::alloc::{AllocError, Global};
@@ -156,10 +157,22 @@ impl Fields {
     }
 
     /// A digest whose first byte is given, and whose others are 0.
-    pub fn digest(&mut self, place: usize) -> Digest {
+    fn small_digest(&mut self, place: usize) -> Digest {
         let mut bytes = [0; 32];
         bytes[0] = self.within(place, 0, 255) as u8;
         Digest(bytes)
+    }
+
+    /// That digest, or the one of the bytes behind `of:`.
+    pub fn digest(&mut self, alloc: Global, place: usize) -> Result<Digest, AllocError> {
+        let found = match self.words.at(place).split_once(':') {
+            Some(("of", word)) => bytes_of(alloc, word)?,
+            _ => None,
+        };
+        match found {
+            Some(bytes) => Ok(digest(bytes.as_slice())),
+            None => Ok(self.small_digest(place)),
+        }
     }
 
     /// Any bytes: of a name after which a list begins.
