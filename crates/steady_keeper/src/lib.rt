@@ -3,7 +3,5 @@
 
 mod keeper;
 mod steady;
-#[cfg(test)]
-mod tests;
 
 pub use steady::SteadyKeeper;
