@@ -1,6 +1,5 @@
 -- Files under operations on names and inodes, and what their places show then.
-use Rattle.std.proofs.Common.{◌≡◌, ◌≢◌, ℕ, List, [], Option, None, Some, refl, sym, ap, ◌∙◌, subst, inl, inr, true, false}
-use Rattle.std.specs.Option.{IsSomeAnd}
+use Rattle.std.proofs.Common.{◌≡◌, ◌≢◌, ◌⊎◌, ℕ, List, Option, None, Some, refl, sym, ap, ◌∙◌, inl, inr, true, false}
 use Rattle.std.specs.Prelude.{IsTrue, is_some, option_and_then, option_map}
 use Rattle.std.proofs.lemmas.Bool.{and_parts}
 use Rattle.op_frames.specs.declared.operation.Op.{Op}
@@ -15,7 +14,6 @@ use Rattle.tree_laws.proofs.File.Unwritten.{KeepsFiles-effect}
 use Rattle.tree_laws.proofs.Node.Reading.{node_at_none_next}
 use Rattle.tree_laws.proofs.Walk.Edits.{edited}
 use Rattle.tree_laws.proofs.Walk.Operations.{Walk, effects-effect, effects_by_walk}
-use Rattle.block_math.specs.Blocks.{piece_of}
 use Rattle.s3_rows.specs.Tables.{Tables, by_spot}
 use Rattle.s3_rows.specs.Validity.{IsValid, finds_of_inode_block, has_inode, is_regular}
 use Rattle.s3_rows.specs.Rows.{Inode, InodeBlock}
@@ -23,15 +21,12 @@ use Rattle.s3_rows.specs.Keyed.{has_key}
 use Rattle.s3_rows.specs.Selections.{block_at, inode_at, inode_block_at}
 use Rattle.row_lemmas.proofs.Keyed.RowAt.{row_at_passes}
 use Rattle.row_lemmas.proofs.Tests.{find_passes, is_some-option_map, pair_parts}
-use Rattle.tree_rows.specs.Contents.{Contents, HaveBytes}
 use Rattle.tree_rows.specs.Shapes.{Represents, node_of_row, shape_of_node}
 use Rattle.tree_rows.specs.Spots.{form_at, form_of_row}
 use Rattle.tree_rows.proofs.Shaped.{found_alike}
 use Rattle.ref_counts.specs.Plans.{LeavesRest}
-use Rattle.core_model.specs.Bytes.{HasBytes, Shows, no_overlay, shown_at}
-use Rattle.core_model.specs.Exact.{IsExact, form_for}
 use Rattle.byte_steps.specs.Kept.{KeepsBytes}
-use Rattle.byte_steps.proofs.SameForms.{piece_of-nil, shown_at-none, shown_at-same_form}
+use Rattle.byte_steps.specs.Shared.{HasFormsOf, HasNoForms, SharesBlocks}
 
 -- ---- the tree
 
@@ -114,23 +109,12 @@ module _ (t after : Tables) (whole next : Tree) (valid : IsValid t) (before : Re
   form_at-new_file : (x n : ℕ) (bytes : List ℕ) → file_at next x ≡ Some bytes → node_at whole x ≡ None → form_at after x n ≡ None
   form_at-new_file x n bytes is none = form_at-file x n bytes is ∙ form_at-no_node t whole before valid x n none
 
-  new_piece : (n : ℕ) (bytes : List ℕ) → bytes ≡ [] → piece_of next.block_size bytes n ≡ []
-  new_piece n bytes is = ap (λ (b : List ℕ). piece_of next.block_size b n) is ∙ piece_of-nil next.block_size n
-
-  pub HasBytes-names : (m : Contents) → HaveBytes m after.blocks → HasBytes m t no_overlay whole → HasBytes m after no_overlay next
-  HasBytes-names m fits has = record { fits = fits; agrees = agrees; exact = λ x n shown bytes waits. absurd (cc waits) }
+  pub SharesBlocks-names : SharesBlocks t after whole next
+  SharesBlocks-names = record { size = size; files = files; rows = rest.blocks }
     where
-      agrees : (x n : ℕ) (bytes : List ℕ) → file_at next x ≡ Some bytes → IsSomeAnd (shown_at m after no_overlay x n) (Shows (piece_of next.block_size bytes n))
-      agrees x n bytes is =
+      files : (x : ℕ) (bytes : List ℕ) → file_at next x ≡ Some bytes → HasFormsOf t after whole x bytes ⊎ HasNoForms after x bytes
+      files x bytes is =
           elim (keeps x bytes is) [
-            | inl there ↦ shown_at-same_form m t after no_overlay x n (piece_of next.block_size bytes n) (form_at-file x n bytes is)
-                (subst (λ s. IsSomeAnd (shown_at m t no_overlay x n) (Shows (piece_of s bytes n))) (sym size) (has.agrees x n bytes there))
-            | inr new ↦ shown_at-none m t after x n (piece_of next.block_size bytes n) (form_at-new_file x n bytes is new.1) (new_piece n bytes new.0)
+            | inl there ↦ inl (record { of = x; same = there; forms = λ n. form_at-file x n bytes is })
+            | inr new ↦ inr (new.0, λ n. form_at-new_file x n bytes is new.1)
           ]
-
-  pub IsExact-names : (digest_of : List ℕ → List ℕ) → IsExact digest_of t no_overlay whole → IsExact digest_of after no_overlay next
-  IsExact-names digest_of exact x n free bytes is =
-      elim (keeps x bytes is) [
-        | inl there ↦ form_at-file x n bytes is ∙ exact x n refl bytes there ∙ ap (λ s. form_for digest_of (piece_of s bytes n)) (sym size)
-        | inr new ↦ form_at-new_file x n bytes is new.1 ∙ sym (ap (form_for digest_of) (new_piece n bytes new.0))
-      ]

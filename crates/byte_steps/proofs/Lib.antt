@@ -8,3 +8,4 @@ pub mod KeptFiles
 pub mod OtherLengths
 pub mod PlacedBlocks
 pub mod SameForms
+pub mod SharedBlocks

@@ -5,6 +5,7 @@ mod files;
 mod lengths;
 mod names;
 mod prepared;
+mod shared;
 mod stats;
 
 pub use files::changed_files_have_their_bytes;
@@ -14,4 +15,5 @@ pub use lengths::{
 };
 pub use names::operations_on_names_keep_bytes;
 pub use prepared::prepared_tables_keep_bytes;
+pub use shared::shared_blocks_keep_bytes;
 pub use stats::counts_of_exact_tables;

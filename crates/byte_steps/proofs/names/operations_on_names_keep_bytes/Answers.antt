@@ -1,4 +1,5 @@
-use Rattle.byte_steps.proofs.KeptFiles.{HasBytes-names, IsExact-names, KeepsBytes-effect, block_size-effect}
+use Rattle.byte_steps.proofs.KeptFiles.{KeepsBytes-effect, SharesBlocks-names, block_size-effect}
+use Rattle.byte_steps.proofs.SharedBlocks.{HasBytes-shared, IsExact-shared}
 use Rattle.byte_steps.proofs.names.operations_on_names_keep_bytes.Goals as goal
 
 pub returns-clause-files : goal.returns-clause-files
@@ -10,13 +11,13 @@ returns-clause-size c = block_size-effect
 pub returns-clause-bytes : goal.returns-clause-bytes
 returns-clause-bytes c =
     λ m t after whole next valid sound before represents rest size keeps has.
-    HasBytes-names t after whole next valid before represents rest size keeps m
+    HasBytes-shared t after whole next (SharesBlocks-names t after whole next valid before represents rest size keeps) m
     (c.kept_rows_keep_what_is_held.ensures.known m t after valid.ordered sound.ordered rest.blocks has.fits) has
 
 pub returns-clause-exact : goal.returns-clause-exact
 returns-clause-exact c =
     λ digest_of t after whole next valid sound before represents rest size keeps.
-    IsExact-names t after whole next valid before represents rest size keeps digest_of
+    IsExact-shared t after whole next (SharesBlocks-names t after whole next valid before represents rest size keeps) digest_of
 
 pub returns-clause-held : goal.returns-clause-held
 returns-clause-held c =
