@@ -1,4 +1,5 @@
 pub mod CopiedAttrs
+pub mod CopiedFiles
 pub mod CopiedNames
 pub mod CopiedNode
 pub mod CopiedPlaces

@@ -1,3 +1,4 @@
+pub mod CopiedBytes
 pub mod CopiedNames
 pub mod CopiedPlaces
 pub mod CopiedRows

@@ -1,6 +1,7 @@
 //! Copies of trees.
 #![tactic(auto)]
 
+mod bytes;
 mod entries;
 mod laws;
 mod names;
@@ -8,6 +9,7 @@ mod places;
 mod rows;
 mod walk;
 
+pub use bytes::copied_trees_keep_bytes;
 pub use entries::{CopySpot, copy_visit};
 pub use laws::{
     copied_names_leave_valid_tables, copied_trees_are_steps, copy_walks_come_to_all,
