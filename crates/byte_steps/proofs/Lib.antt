@@ -7,5 +7,6 @@ pub mod DistinctRows
 pub mod KeptFiles
 pub mod OtherLengths
 pub mod PlacedBlocks
+pub mod SameBlocks
 pub mod SameForms
 pub mod SharedBlocks

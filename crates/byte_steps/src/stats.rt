@@ -1,5 +1,6 @@
 //! How many places, blocks and objects tables have beside their tree.
 ghost use Rattle.std.specs.Prelude.{◌≡◌, ◌==◌, ℕ, List, [], ◌∷◌, length, filter, not};
+ghost use Rattle.plain_tree.specs.Numbers.{InOrder};
 ghost use Rattle.plain_tree.specs.Tree.{Tree};
 ghost use Rattle.s3_rows.specs.Tables.{Tables};
 ghost use Rattle.s3_rows.specs.Validity.{IsValid};
@@ -7,7 +8,7 @@ ghost use Rattle.tree_rows.specs.Shapes.{Represents};
 ghost use Rattle.core_model.specs.Bytes.{no_overlay};
 ghost use Rattle.core_model.specs.Exact.{IsExact};
 ghost use Rattle.core_model.specs.Occurring.{IsCollisionFree, blocks_in};
-ghost use Rattle.byte_steps.specs.Counts.{different_blocks};
+ghost use Rattle.byte_steps.specs.Counts.{HasBytesOf, different_blocks};
 
 /// Valid tables whose places are all exact have a place for each block of the tree that is not all zeros, and where no two different
 /// ones collide a block for each different one. As many objects have a block.
@@ -18,4 +19,10 @@ pub fn counts_of_exact_tables()
         → IsCollisionFree digest_of (blocks_in whole) → length t.blocks ≡ different_blocks (blocks_in whole) }
     ensures objects { (t : Tables) → IsValid t → length (filter (λ o. not (o.refcount == 0)) t.objects) ≡ length t.blocks }
     ensures worked { different_blocks ((1 ∷ []) ∷ (2 ∷ []) ∷ (1 ∷ []) ∷ []) ≡ 2 }
+{}
+
+/// Two trees in blocks of one size have as many different blocks where each file of either has the bytes of one of the other.
+pub fn same_bytes_make_as_many_blocks()
+    ensures { (whole next : Tree) → InOrder whole → InOrder next → next.block_size ≡ whole.block_size → HasBytesOf whole next → HasBytesOf next whole
+        → different_blocks (blocks_in next) ≡ different_blocks (blocks_in whole) }
 {}
