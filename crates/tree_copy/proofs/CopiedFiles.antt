@@ -36,7 +36,7 @@ bytes-copied next order (Directory entries) = refl
 bytes-copied next order (Link target) = refl
 
 -- a file is a node
-node_of_file : (found : Option Node) (bytes : List ℕ) → file_in found ≡ Some bytes → (node : Node) × (found ≡ Some node)
+pub node_of_file : (found : Option Node) (bytes : List ℕ) → file_in found ≡ Some bytes → (node : Node) × (found ≡ Some node)
 node_of_file None bytes is = absurd (cc is)
 node_of_file (Some node) bytes is = (node, refl)
 

@@ -12,6 +12,7 @@ pub mod NextPlaces
 pub mod NextRows
 pub mod NextVisits
 pub mod PartialSteps
+pub mod SameCounts
 pub mod SameEntries
 pub mod Stands
 pub mod Visits

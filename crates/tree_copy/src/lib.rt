@@ -9,7 +9,7 @@ mod places;
 mod rows;
 mod walk;
 
-pub use bytes::copied_trees_keep_bytes;
+pub use bytes::{copied_trees_keep_bytes, copied_trees_make_no_blocks};
 pub use entries::{CopySpot, copy_visit};
 pub use laws::{
     copied_names_leave_valid_tables, copied_trees_are_steps, copy_walks_come_to_all,
