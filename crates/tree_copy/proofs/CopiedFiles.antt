@@ -5,13 +5,14 @@ use Rattle.std.specs.Prelude.{is_some, option_and_then}
 use Rattle.plain_tree.specs.Below.{at_and_below, is_among}
 use Rattle.plain_tree.specs.Files.{bytes_of, file_at}
 use Rattle.plain_tree.specs.Numbers.{InOrder}
-use Rattle.plain_tree.specs.Subtrees.{copied_content, with_copy}
-use Rattle.plain_tree.specs.Tree.{Content, Regular, Directory, Link, Node, Tree, named, node_at, touched}
+use Rattle.plain_tree.specs.Subtrees.{with_copy}
+use Rattle.plain_tree.specs.Tree.{Node, Tree, named, node_at, touched}
 use Rattle.s3_rows.specs.Tables.{Tables}
 use Rattle.tree_laws.proofs.Copy.Nodes.{FromCopy, from_node, new_node, node_before, number_fits, number_of, place_of-one, with_copies}
 use Rattle.tree_laws.proofs.File.Alone.{changes_found}
+use Rattle.tree_laws.proofs.File.Unwritten.{bytes-copied, file_at-with_copy}
 use Rattle.tree_laws.proofs.Node.Kind.{none_some}
-use Rattle.tree_laws.proofs.Node.Reading.{node_at_none_next, read_changed}
+use Rattle.tree_laws.proofs.Node.Reading.{node_at_none_next}
 use Rattle.tree_rows.specs.Shapes.{Represents}
 use Rattle.tree_rows.specs.Spots.{form_at}
 use Rattle.byte_steps.specs.Shared.{HasFormsOf, SharesBlocks}
@@ -24,16 +25,6 @@ use Rattle.tree_copy.proofs.Visits.{row_of_node}
 -- the bytes of a node, if it is a file
 abbrev file_in : Option Node → Option (List ℕ)
 file_in found = option_and_then (λ node. bytes_of node.content) found
-
-bytes-named : (name : List ℕ) (inode : ℕ) (content : Content) → bytes_of (named name inode content) ≡ bytes_of content
-bytes-named name inode (Regular bytes) = refl
-bytes-named name inode (Directory entries) = refl
-bytes-named name inode (Link target) = refl
-
-bytes-copied : (next : ℕ) (order : List ℕ) (content : Content) → bytes_of (copied_content next order content) ≡ bytes_of content
-bytes-copied next order (Regular bytes) = refl
-bytes-copied next order (Directory entries) = refl
-bytes-copied next order (Link target) = refl
 
 -- a file is a node
 pub node_of_file : (found : Option Node) (bytes : List ℕ) → file_in found ≡ Some bytes → (node : Node) × (found ≡ Some node)
@@ -48,11 +39,6 @@ module _ (t : Tree) (ordered : InOrder t) (source parent now : ℕ) (name : List
 
   abbrev more : Tree
   more = with_copies t order now
-
-  -- the new entry leaves the bytes of all files
-  file_at-more : (x : ℕ) → file_at (with_copy source parent name now t) x ≡ file_at more x
-  file_at-more x =
-      read_changed file_in (λ node. touched now (record node { content = named name t.next_inode node.content })) (λ node. bytes-named name t.next_inode node.content) parent x more
 
   -- what has the number of a copy is the copy
   copy_from : (x : ℕ) (node : Node) → is_among order x ≡ true → (node_at t (number_of t order x) ≡ Some node) ⊎ FromCopy t order now order (number_of t order x) node
@@ -81,10 +67,10 @@ module _ (t : Tree) (ordered : InOrder t) (source parent now : ℕ) (name : List
   pub CopiesFiles-with_copy : CopiesFiles t source (with_copy source parent name now t)
   CopiesFiles-with_copy = record {
     size = (changes_found (λ node. touched now (record node { content = named name t.next_inode node.content })) parent more (node_at more parent) refl).block_size;
-    old = λ x less. file_at-more x ∙ ap file_in (node_before t source now x less);
-    copied = λ x among. file_at-more (number_of t order x) ∙ file_copied x among (node_at t x) refl;
+    old = λ x less. file_at-with_copy source parent name now t x ∙ ap file_in (node_before t source now x less);
+    copied = λ x among. file_at-with_copy source parent name now t (number_of t order x) ∙ file_copied x among (node_at t x) refl;
     new = λ x bytes above is.
-        let node = node_of_file (node_at more x) bytes (sym (file_at-more x) ∙ is) in
+        let node = node_of_file (node_at more x) bytes (sym (file_at-with_copy source parent name now t x) ∙ is) in
         file_new x above node.0 (from_node t order now x node.0 node.1);
   }
 

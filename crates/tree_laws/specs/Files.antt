@@ -1,5 +1,5 @@
 -- What a write and a truncation do to a file, and what other operations leave of it.
-use Rattle.std.specs.Prelude.{◌≡◌, ℕ, ◌+◌, ◌-◌, ◌≤◌, ◌⊎◌, List, [], ◌++◌, length, take, drop, replicate, min, Bool, true, false, Some}
+use Rattle.std.specs.Prelude.{◌≡◌, ℕ, ◌+◌, ◌-◌, ◌≤◌, ◌<◌, ◌⊎◌, List, [], ◌++◌, length, take, drop, replicate, min, Bool, true, false, Some}
 use Rattle.op_frames.specs.declared.operation.Op.{Op}
 use Rattle.op_frames.specs.declared.operation.Op.TheVariants as ops
 use Rattle.op_frames.specs.declared.reply.Reply.TheVariants as replies
@@ -65,3 +65,10 @@ copies_files _ = false
 pub record KeepsFiles (t after : Tree) : Type 0 where
   pub next_inode : t.next_inode ≤ after.next_inode
   pub files : (inode : ℕ) (bytes : List ℕ) → file_at after inode ≡ Some bytes → (file_at t inode ≡ Some bytes) ⊎ ((t.next_inode ≤ inode) × (bytes ≡ []))
+
+-- Each file that was there and stays has the bytes that it had. One under a number that was to come is empty, or has the bytes of a
+-- file that was there, as the copy of a file has.
+pub record KeepsOldFiles (t after : Tree) : Type 0 where
+  pub next_inode : t.next_inode ≤ after.next_inode
+  pub old : (inode : ℕ) (bytes : List ℕ) → inode < t.next_inode → file_at after inode ≡ Some bytes → file_at t inode ≡ Some bytes
+  pub new : (inode : ℕ) (bytes : List ℕ) → t.next_inode ≤ inode → file_at after inode ≡ Some bytes → (bytes ≡ []) ⊎ ((of : ℕ) × (file_at t of ≡ Some bytes))

@@ -8,7 +8,7 @@ ghost use Rattle.plain_tree.specs.Classes.{Bytes, class_of};
 ghost use Rattle.plain_tree.specs.Files.{inode_of};
 ghost use Rattle.plain_tree.specs.Numbers.{InOrder};
 ghost use Rattle.plain_tree.specs.Operations.{reply_to, tree_after};
-ghost use Rattle.tree_laws.specs.Files.{IsWritten, IsResized, KeepsFiles, ReadsThere, copies_files};
+ghost use Rattle.tree_laws.specs.Files.{IsWritten, IsResized, KeepsFiles, KeepsOldFiles, ReadsThere, copies_files};
 
 /// What is written is read: after a Write is answered with a count of at least 1, each handle on that file, of any pass,
 /// reads the data there. A gap reads as zeros, and nothing else has changed but the times of the file.
@@ -26,8 +26,9 @@ pub fn truncated_is_cut()
         → IsResized inode size now t (tree_after t pass (ops.Truncate inode size) now) }
 {}
 
-/// An operation that neither works on the bytes of one file nor copies files leaves the bytes of every file that stays, and the files
-/// that it makes are empty.
+/// An operation that does not work on the bytes of one file leaves the bytes of every file that stays. The files that it makes are
+/// empty, but for those of a copy, each of which has the bytes of a file that was there.
 pub fn unwritten_files_keep_their_bytes()
-    ensures { (t : Tree) (pass now : ℕ) (op : Op) → InOrder t → class_of op ≢ Bytes → copies_files op ≡ false → KeepsFiles t (tree_after t pass op now) }
+    ensures each { (t : Tree) (pass now : ℕ) (op : Op) → InOrder t → class_of op ≢ Bytes → KeepsOldFiles t (tree_after t pass op now) }
+    ensures empty { (t : Tree) (pass now : ℕ) (op : Op) → InOrder t → class_of op ≢ Bytes → copies_files op ≡ false → KeepsFiles t (tree_after t pass op now) }
 {}

@@ -1,11 +1,12 @@
--- Files under operations that write no bytes and copy no files: each has the bytes that it had, or is new and empty.
-use Rattle.std.proofs.Common.{◌≡◌, ◌≢◌, ◌≤◌, ℕ, List, [], Bool, true, false, cond, Option, None, Some, refl, sym, ap, ◌∙◌, ◌⊎◌, inl, inr, arith}
+-- Files under operations that write no bytes: each has the bytes that it had, or is new and empty, or a copy of one that was there.
+use Rattle.std.proofs.Common.{◌≡◌, ◌≢◌, ◌≤◌, ◌<◌, ℕ, List, [], Bool, true, false, cond, Option, None, Some, refl, sym, ap, ◌∙◌, ◌⊎◌, inl, inr, arith}
 use Rattle.std.proofs.lemmas.Bool.{cases_eq}
 use Rattle.std.proofs.lemmas.Map.Entries.{lookup-filter-keys}
 use Rattle.std.specs.BTreeMap.{is_at}
 use Rattle.std.specs.Ordering.{nat_cmp}
 use Rattle.std.specs.Prelude.{◌==◌, ◌&&◌, filter, not, option_and_then, option_map}
 use Rattle.op_frames.specs.declared.operation.Op.{Op}
+use Rattle.op_frames.specs.declared.operation.Op.TheVariants as ops
 use Rattle.plain_tree.specs.Below.{at_and_below, is_among}
 use Rattle.plain_tree.specs.Checks.{first_failure}
 use Rattle.plain_tree.specs.Classes.{Bytes, class_of}
@@ -13,9 +14,10 @@ use Rattle.plain_tree.specs.Entries.{is_directory, lives, unnamed}
 use Rattle.plain_tree.specs.Files.{bytes_of, file_at}
 use Rattle.plain_tree.specs.Numbers.{InOrder}
 use Rattle.plain_tree.specs.Operations.{checks, effect, tree_after}
-use Rattle.plain_tree.specs.Subtrees.{left_over, with_lock, without_directories}
-use Rattle.plain_tree.specs.Tree.{Content, Regular, Directory, Link, Node, Tree, change_node, named, node_at, stamped, with_node, without_node}
-use Rattle.tree_laws.specs.Files.{KeepsFiles, copies_files}
+use Rattle.plain_tree.specs.Subtrees.{copied_content, left_over, with_copy, with_lock, without_directories}
+use Rattle.plain_tree.specs.Tree.{Content, Regular, Directory, Link, Node, Tree, change_node, named, node_at, stamped, touched, with_node, without_node}
+use Rattle.tree_laws.specs.Files.{KeepsFiles, KeepsOldFiles, copies_files}
+use Rattle.tree_laws.proofs.Copy.Nodes.{FromCopy, from_node, node_before, with_copies}
 use Rattle.tree_laws.proofs.File.Alone.{changes_found}
 use Rattle.tree_laws.proofs.Node.Keys.{lookup-remove_entry_other, numbers_tell, same_number}
 use Rattle.tree_laws.proofs.Node.Order.{order_walk}
@@ -164,6 +166,71 @@ unwritten_walk before now op writes_none copies_none =
 pub KeepsFiles-effect : (t : Tree) (pass now : ℕ) (op : Op) → InOrder t → class_of op ≢ Bytes → copies_files op ≡ false → first_failure (checks t pass op) ≡ None → KeepsFiles t (effect t pass op now)
 KeepsFiles-effect t pass now op ordered writes_none copies_none passes =
     (effects-effect t pass now op (λ b. InOrder t → InOrder b × KeepsFiles t b) (effects_by_walk t pass now op (λ a b. InOrder a → InOrder b × KeepsFiles a b) (unwritten_walk t now op writes_none copies_none)) passes ordered).1
+
+-- ---- with copies
+
+pub bytes-copied : (next : ℕ) (order : List ℕ) (content : Content) → bytes_of (copied_content next order content) ≡ bytes_of content
+bytes-copied next order (Regular bytes) = refl
+bytes-copied next order (Directory entries) = refl
+bytes-copied next order (Link target) = refl
+
+-- the entry that names a copy leaves the bytes of all files
+pub file_at-with_copy : (source p : ℕ) (n : List ℕ) (now : ℕ) (t : Tree) (x : ℕ) → file_at (with_copy source p n now t) x ≡ file_at (with_copies t (at_and_below t source) now) x
+file_at-with_copy source p n now t x =
+    read_changed file_in (λ node. touched now (record node { content = named n t.next_inode node.content })) (λ node. bytes-named n t.next_inode node.content) p x
+    (with_copies t (at_and_below t source) now)
+
+KeepsOldFiles-with_copy : (source p : ℕ) (n : List ℕ) (now : ℕ) (t : Tree) → InOrder t → KeepsOldFiles t (with_copy source p n now t)
+KeepsOldFiles-with_copy source p n now t ordered = record {
+  next_inode =
+      let next : (with_copy source p n now t).next_inode ≡ more.next_inode =
+      (changes_found (λ node. touched now (record node { content = named n t.next_inode node.content })) p more (node_at more p) refl).next_inode in
+      omega (arith, next);
+  old = λ x b less is. sym (ap file_in (node_before t source now x less)) ∙ sym (file_at-with_copy source p n now t x) ∙ is;
+  new = λ x b above is. inr (of_found x b (node_at more x) refl above (sym (file_at-with_copy source p n now t x) ∙ is));
+}
+  where
+    more : Tree
+    more = with_copies t (at_and_below t source) now
+
+    of_node : (x : ℕ) (b : List ℕ) (node : Node) → t.next_inode ≤ x → bytes_of node.content ≡ Some b → (node_at t x ≡ Some node) ⊎ FromCopy t (at_and_below t source) now (at_and_below t source) x node
+        → (of : ℕ) × (file_at t of ≡ Some b)
+    of_node x b node above is (inl there) = (x, ap file_in there ∙ is)
+    of_node x b node above is (inr from) =
+        (from.of, ap file_in from.there ∙ sym (bytes-copied t.next_inode (at_and_below t source) from.original.content) ∙ sym (ap (λ (y : Node). bytes_of y.content) from.is) ∙ is)
+
+    of_found : (x : ℕ) (b : List ℕ) (found : Option Node) → node_at more x ≡ found → t.next_inode ≤ x → file_in (node_at more x) ≡ Some b → (of : ℕ) × (file_at t of ≡ Some b)
+    of_found x b None there above is =
+        let clash : None ≡ Some b = sym (ap file_in there) ∙ is in
+        absurd (cc clash)
+    of_found x b (Some node) there above is = of_node x b node above (sym (ap file_in there) ∙ is) (from_node t (at_and_below t source) now x node there)
+
+KeepsOldFiles-KeepsFiles : (t after : Tree) → KeepsFiles t after → KeepsOldFiles t after
+KeepsOldFiles-KeepsFiles t after keeps = record { next_inode = keeps.next_inode; old = old; new = new }
+  where
+    old : (x : ℕ) (b : List ℕ) → x < t.next_inode → file_at after x ≡ Some b → file_at t x ≡ Some b
+    old x b less is =
+        elim (keeps.files x b is) [
+          | inl there ↦ there
+          | inr made ↦ absurd (omega (arith, less, made.0))
+        ]
+
+    new : (x : ℕ) (b : List ℕ) → t.next_inode ≤ x → file_at after x ≡ Some b → (b ≡ []) ⊎ ((of : ℕ) × (file_at t of ≡ Some b))
+    new x b above is =
+        elim (keeps.files x b is) [
+          | inl there ↦ inr (x, there)
+          | inr made ↦ inl made.1
+        ]
+
+pub KeepsOldFiles-effect : (t : Tree) (pass now : ℕ) (op : Op) → InOrder t → class_of op ≢ Bytes → first_failure (checks t pass op) ≡ None → KeepsOldFiles t (effect t pass op now)
+KeepsOldFiles-effect t pass now (ops.CopyTree source p n) ordered writes_none passes = KeepsOldFiles-with_copy source p n now t ordered
+KeepsOldFiles-effect t pass now op ordered writes_none passes = KeepsOldFiles-KeepsFiles t (effect t pass op now) (KeepsFiles-effect t pass now op ordered writes_none refl passes)
+
+pub KeepsOldFiles-tree_after : (t : Tree) (pass now : ℕ) (op : Op) → InOrder t → class_of op ≢ Bytes → KeepsOldFiles t (tree_after t pass op now)
+KeepsOldFiles-tree_after t pass now op ordered writes_none =
+    after_call (KeepsOldFiles t) t pass now op (KeepsOldFiles-KeepsFiles t t (KeepsFiles-refl t)) (KeepsOldFiles-effect t pass now op ordered writes_none)
+
+-- ---- without copies
 
 pub KeepsFiles-tree_after : (t : Tree) (pass now : ℕ) (op : Op) → InOrder t → class_of op ≢ Bytes → copies_files op ≡ false → KeepsFiles t (tree_after t pass op now)
 KeepsFiles-tree_after t pass now op ordered writes_none copies_none =
