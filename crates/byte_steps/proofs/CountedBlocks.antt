@@ -91,14 +91,14 @@ stored_form digest_of [] form is = absurd (cc is)
 stored_form digest_of (x ∷ xs) form is = refl
 
 -- the link and the block of a form
-record HasForm (t : Tables) (x n : ℕ) (form : List ℕ × ℕ) : Type 0 where
-  link : InodeBlock
-  block : Block
-  place : inode_block_at t x n ≡ Some link
-  row : block_at t link.block ≡ Some block
-  is : form_of_row block ≡ form
+pub record HasForm (t : Tables) (x n : ℕ) (form : List ℕ × ℕ) : Type 0 where
+  pub link : InodeBlock
+  pub block : Block
+  pub place : inode_block_at t x n ≡ Some link
+  pub row : block_at t link.block ≡ Some block
+  pub is : form_of_row block ≡ form
 
-form_parts : (t : Tables) (x n : ℕ) (form : List ℕ × ℕ) → form_at t x n ≡ Some form → HasForm t x n form
+pub form_parts : (t : Tables) (x n : ℕ) (form : List ℕ × ℕ) → form_at t x n ≡ Some form → HasForm t x n form
 form_parts t x n form is = by_link (inode_block_at t x n) refl is
   where
     of_block : (l : InodeBlock) (found : Option Block) → inode_block_at t x n ≡ Some l → block_at t l.block ≡ found → option_map form_of_row found ≡ Some form → HasForm t x n form
@@ -112,27 +112,27 @@ form_parts t x n form is = by_link (inode_block_at t x n) refl is
 -- ---- places and blocks
 
 module _ (digest_of : List ℕ → List ℕ) (t : Tables) (whole : Tree) (valid : IsValid t) (same : Represents t whole) (exact : IsExact digest_of t no_overlay whole) where
-  up : IsTrue (rises by_place (placed_blocks whole))
+  pub up : IsTrue (rises by_place (placed_blocks whole))
   up = rises-placed_blocks whole (rises-nodes t whole same valid.ordered.inodes)
 
   -- a block of the tree is found by its place, with its form
-  placed_form : (p : Placed) → row_at by_place p.0 (placed_blocks whole) ≡ Some p → form_at t p.0.0 p.0.1 ≡ Some (digest_of p.1, length p.1)
+  pub placed_form : (p : Placed) → row_at by_place p.0 (placed_blocks whole) ≡ Some p → form_at t p.0.0 p.0.1 ≡ Some (digest_of p.1, length p.1)
   placed_form p there =
       let own : IsPlaced whole p =
       row_at_meets by_place (IsPlaced whole) p.0 (placed_blocks whole) p (IsPlaced-placed_blocks whole (rises-nodes t whole same valid.ordered.inodes)) there in
       exact p.0.0 p.0.1 refl own.bytes own.file ∙ ap (form_of_stored digest_of) (sym own.is) ∙ form_stored digest_of p.1 own.stored
 
   -- what any test finds of them is found by its place
-  found_placed : (test : Placed → Bool) (p : Placed) → find test (placed_blocks whole) ≡ Some p → row_at by_place p.0 (placed_blocks whole) ≡ Some p
+  pub found_placed : (test : Placed → Bool) (p : Placed) → find test (placed_blocks whole) ≡ Some p → row_at by_place p.0 (placed_blocks whole) ≡ Some p
   found_placed test p there = row_at_from_find by_place pair_cmp_total test (placed_blocks whole) p up there
 
   -- a place with a form has a block of the tree, with its digest
-  record IsOfTree (x n : ℕ) (form : List ℕ × ℕ) : Type 0 where
-    block : Placed
-    found : row_at by_place (x, n) (placed_blocks whole) ≡ Some block
-    digest : digest_of block.1 ≡ form.0
+  pub record IsOfTree (x n : ℕ) (form : List ℕ × ℕ) : Type 0 where
+    pub block : Placed
+    pub found : row_at by_place (x, n) (placed_blocks whole) ≡ Some block
+    pub digest : digest_of block.1 ≡ form.0
 
-  of_tree : (x n : ℕ) (form : List ℕ × ℕ) → IsTrue (has_inode is_regular t x) → form_at t x n ≡ Some form → IsOfTree x n form
+  pub of_tree : (x n : ℕ) (form : List ℕ × ℕ) → IsTrue (has_inode is_regular t x) → form_at t x n ≡ Some form → IsOfTree x n form
   of_tree x n form regular is =
       let file : (bytes : List ℕ) × (file_at whole x ≡ Some bytes) = file_of_row t whole same x regular in
       let stored : IsTrue (is_stored (trimmed (piece_of whole.block_size file.0 n))) =
@@ -146,14 +146,14 @@ module _ (digest_of : List ℕ → List ℕ) (t : Tables) (whole : Tree) (valid 
       record { block = found.0; found = found.1; digest = ap (λ (f : List ℕ × ℕ). f.0) both }
 
   -- a link names a block, and lies in a regular file
-  link_finds : (x n : ℕ) (l : InodeBlock) → inode_block_at t x n ≡ Some l → (x ≡ l.inode) × (n ≡ l.blockno) × IsTrue (has_inode is_regular t x) × IsTrue (is_some (block_at t l.block))
+  pub link_finds : (x n : ℕ) (l : InodeBlock) → inode_block_at t x n ≡ Some l → (x ≡ l.inode) × (n ≡ l.blockno) × IsTrue (has_inode is_regular t x) × IsTrue (is_some (block_at t l.block))
   link_finds x n l there =
       let own = pair_parts (x, n) (l.inode, l.blockno) (find_passes (has_key by_spot (x, n)) t.inode_blocks l there) in
       let finds : IsTrue (finds_of_inode_block t l) = row_at_passes by_spot (finds_of_inode_block t) (x, n) t.inode_blocks l valid.rows.inode_blocks there in
       let parts = and_parts (has_inode is_regular t l.inode) (is_some (block_at t l.block)) finds in
       (own.0, own.1, ap (λ y. has_inode is_regular t y) own.0 ∙ parts.0, parts.1)
 
-  link_form : (x n : ℕ) (l : InodeBlock) (b : Block) → inode_block_at t x n ≡ Some l → block_at t l.block ≡ Some b → form_at t x n ≡ Some (form_of_row b)
+  pub link_form : (x n : ℕ) (l : InodeBlock) (b : Block) → inode_block_at t x n ≡ Some l → block_at t l.block ≡ Some b → form_at t x n ≡ Some (form_of_row b)
   link_form x n l b place row = ap (option_and_then (λ (k : InodeBlock). option_map form_of_row (block_at t k.block))) place ∙ ap (option_map form_of_row) row
 
   -- ---- places
@@ -189,7 +189,7 @@ module _ (digest_of : List ℕ → List ℕ) (t : Tables) (whole : Tree) (valid 
   -- ---- blocks
 
   -- a block row has a place
-  block_place : (b : Block) → block_at t b.id ≡ Some b → (l : InodeBlock) × (inode_block_at t l.inode l.blockno ≡ Some l) × (l.block ≡ b.id)
+  pub block_place : (b : Block) → block_at t b.id ≡ Some b → (l : InodeBlock) × (inode_block_at t l.inode l.blockno ≡ Some l) × (l.block ≡ b.id)
   block_place b there =
       let counts = and_parts (b.refcount == listed_block_count t b.id) (nat_le 1 b.refcount) (row_at_passes by_block (counts_block t) b.id t.blocks b valid.counts.blocks there) in
       let counted : b.refcount ≡ listed_block_count t b.id = eqb-true b.refcount (listed_block_count t b.id) counts.0 in

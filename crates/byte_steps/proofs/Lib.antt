@@ -3,6 +3,7 @@ pub mod ChangedFiles
 pub mod ChangedNumbers
 pub mod CountedBlocks
 pub mod CountedObjects
+pub mod CountedPlaces
 pub mod DistinctRows
 pub mod KeptFiles
 pub mod OtherLengths
