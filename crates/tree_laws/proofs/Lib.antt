@@ -1,5 +1,6 @@
 pub mod Copy
 pub mod File
+pub mod Growth
 pub mod Lock
 pub mod Name
 pub mod Node

@@ -3,7 +3,7 @@ pub mod Above
 pub mod Below
 pub mod Branch
 pub mod Copy
-mod Count
+pub mod Count
 pub mod Definition
 pub mod Gain
 pub mod Loss

@@ -6,6 +6,7 @@ mod copies;
 mod directories;
 mod entries;
 mod files;
+mod growing;
 mod limits;
 mod locks;
 mod names;
@@ -22,6 +23,7 @@ pub use directories::{
 };
 pub use entries::{entries_name_nodes, names_stay_legal, renamed_to_itself_is_as_before};
 pub use files::{truncated_is_cut, unwritten_files_keep_their_bytes, written_is_read};
+pub use growing::names_of_inodes_grow_by_one;
 pub use limits::limits_stay;
 pub use locks::{
     locked_entries_stay, locked_nodes_refuse, locked_nodes_stay, locked_trees_stay,

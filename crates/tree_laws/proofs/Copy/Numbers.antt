@@ -36,7 +36,7 @@ visit (suc n) t inode seen fresh =
     visit_new (λ child s. walk n t child s) (λ child s old. visit n t child s old) inode (children t inode) seen (is_among seen inode) refl fresh
 
 -- a walk visits no node twice
-visited_once : (t : Tree) (inode : ℕ) → Fresh [] (at_and_below t inode)
+pub visited_once : (t : Tree) (inode : ℕ) → Fresh [] (at_and_below t inode)
 visited_once t inode = visit (suc (length t.nodes)) t inode [] _
 
 -- ---- the numbers of copies

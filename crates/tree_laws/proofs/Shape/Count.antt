@@ -35,7 +35,7 @@ names_none x (Directory entries) none = count_none x entries none
 names_none x (Regular bytes) none = refl
 names_none x (Link target) none = refl
 
-sum_none : (x : ℕ) (es : List (ℕ × Node)) → list_any (λ e. list_any (λ entry. entry.1 == x) (entries_of e.1.content)) es ≡ false → sum_by (λ e. names_in x e.1.content) es ≡ 0
+pub sum_none : (x : ℕ) (es : List (ℕ × Node)) → list_any (λ e. list_any (λ entry. entry.1 == x) (entries_of e.1.content)) es ≡ false → sum_by (λ e. names_in x e.1.content) es ≡ 0
 sum_none x [] none = refl
 sum_none x (e ∷ es) none =
     let parts = or_parts (list_any (λ entry. entry.1 == x) (entries_of e.1.content)) (list_any (λ e. list_any (λ entry. entry.1 == x) (entries_of e.1.content)) es) none in
