@@ -1,5 +1,6 @@
 pub mod Closed
 pub mod Counted
+pub mod NameUses
 pub mod NewLink
 pub mod NodeRows
 pub mod Opened

@@ -65,16 +65,20 @@ bytes_alike (tree.Link target) = refl
 
 -- a sum over nodes is one over rows
 module _ (t : Tables) (whole : Tree) (same : Represents t whole) where
-  over_rows : (f : tree.Content → ℕ) (g : ContentShape → ℕ) → ((content : tree.Content) → f content ≡ g (shape_of_content content))
-      → sum_by (λ (e : ℕ × Node). f e.1.content) whole.nodes ≡ sum_by (λ (r : Inode). g (node_of_row t r).content) t.inodes
-  over_rows f g alike =
-      let of_shape : ℕ × NodeShape → ℕ = λ e. g e.1.content in
+  pub over_nodes : (f : Node → ℕ) (g : NodeShape → ℕ) → ((node : Node) → f node ≡ g (shape_of_node node))
+      → sum_by (λ (e : ℕ × Node). f e.1) whole.nodes ≡ sum_by (λ (r : Inode). g (node_of_row t r)) t.inodes
+  over_nodes f g alike =
+      let of_shape : ℕ × NodeShape → ℕ = λ e. g e.1 in
       let made : Inode → ℕ × NodeShape = λ r. (r.id, node_of_row t r) in
       let shaped : ℕ × Node → ℕ × NodeShape = λ e. (e.0, shape_of_node e.1) in
-      let of_node : ℕ × Node → ℕ = λ e. f e.1.content in
-      let of_content : ℕ × Node → ℕ = λ e. g (shape_of_content e.1.content) in
-      let each : of_node ≡ of_content = λ i e. alike e.1.content i in
+      let of_node : ℕ × Node → ℕ = λ e. f e.1 in
+      let of_shaped : ℕ × Node → ℕ = λ e. g (shape_of_node e.1) in
+      let each : of_node ≡ of_shaped = λ i e. alike e.1 i in
       ap (λ (h : ℕ × Node → ℕ). sum_by h whole.nodes) each ∙ sym (sum_by-map of_shape shaped whole.nodes) ∙ ap (λ (s : TreeShape). sum_by of_shape s.nodes) (sym same) ∙ sum_by-map of_shape made t.inodes
+
+  pub over_rows : (f : tree.Content → ℕ) (g : ContentShape → ℕ) → ((content : tree.Content) → f content ≡ g (shape_of_content content))
+      → sum_by (λ (e : ℕ × Node). f e.1.content) whole.nodes ≡ sum_by (λ (r : Inode). g (node_of_row t r).content) t.inodes
+  over_rows f g alike = over_nodes (λ (node : Node). f node.content) (λ (s : NodeShape). g s.content) (λ node. alike node.content)
 
   -- ---- nodes
 
@@ -118,7 +122,7 @@ module _ (t : Tables) (finds : IsTrue (list_all (finds_of_entry t) t.contents)) 
   folder_of : (c : Content) → IsTrue (finds_of_entry t c) → IsTrue (has_inode is_directory t c.parent)
   folder_of c found = (and_parts (has_inode is_directory t c.parent) _ (and_parts _ (has_inode any_kind t c.inode) found).0).0
 
-  no_parent : (r : Inode) → inode_at t r.id ≡ Some r → IsTrue (not (is_directory r.kind)) → (c : Content) → IsTrue (finds_of_entry t c) → IsTrue (not (is_in r.id c))
+  pub no_parent : (r : Inode) → inode_at t r.id ≡ Some r → IsTrue (not (is_directory r.kind)) → (c : Content) → IsTrue (finds_of_entry t c) → IsTrue (not (is_in r.id c))
   no_parent r there other c found = by_case (c.parent == r.id) refl
     where
       by_case : (b : Bool) → (c.parent == r.id) ≡ b → IsTrue (not b)

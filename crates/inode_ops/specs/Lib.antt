@@ -3,3 +3,4 @@ pub mod Nameless
 pub mod Plans
 pub mod SetAttrs
 pub mod Tallies
+pub mod Uses

@@ -5,6 +5,7 @@ mod answers;
 mod attributes;
 mod counting;
 mod handles_of;
+mod laws;
 mod plans;
 mod reading;
 mod row_stats;
@@ -12,5 +13,6 @@ mod statfs;
 mod symlink;
 mod xattrs;
 
+pub use laws::names_count_their_uses;
 pub use plans::plan;
 pub use row_stats::{RowStats, stats};
