@@ -13,6 +13,7 @@ use Rattle.s3_rows.specs.declared.lists.Spot.{Spot}
 use Rattle.s3_rows.specs.Rows.{Inode}
 use Rattle.s3_rows.specs.Selections.{inode_at}
 use Rattle.s3_rows.specs.Tables.{Tables}
+use Rattle.s3_rows.specs.Batches.{tables_after}
 use Rattle.s3_rows.specs.Told.{Told, IfTold}
 use Rattle.s3_devices.specs.Objects.{Objects}
 use Rattle.s3_rows.specs.Validity.{IsValid, HasUniqueNames}
@@ -34,7 +35,7 @@ use Rattle.volume_core.specs.Standing.{StandsFor, IsCommitted, IsToldAfter}
 use Rattle.volume_core.specs.Refusals.{IsDone, IsStill, IsOutcome}
 use Rattle.volume_core.proofs.Effects.{Fulfils, fulfils, no_bytes, no_copies, same_like, writes_nothing}
 use Rattle.volume_core.proofs.LawsUsed.{NameLaws}
-use Rattle.volume_core.proofs.Standing.{told_fact, fact_told, is_still, still_alike, stepped, stored_after, backed_after, told_after}
+use Rattle.volume_core.proofs.Standing.{told_fact, fact_told, is_still, still_alike, IsSharing, IsSharing-step, stepped, stored_after, backed_after, told_after}
 
 module _ {K : Type 0} (told : K → Option Told) (before after : RowCore K) (laws : NameLaws) (digest_of : List ℕ → List ℕ) (objects : Option Objects) (whole : Tree) (s : StandsFor told before whole)
     (pass : ℕ) (op : Op) (now : ℕ) (carried : IsTrue (is_by_plan op)) where
@@ -56,14 +57,17 @@ module _ {K : Type 0} (told : K → Option Told) (before after : RowCore K) (law
   committed : (batch : List Change) (reply given : Reply) (drop : List Spot) → IsPlanOf s.now.tables whole pass op now (plans.Commit batch reply drop) → given ≡ reply → IsCommitted batch (told before.keeper) (told after.keeper)
       → HasHandles after.handles (effect whole pass op now) → IsDone told before after digest_of objects objects whole pass op now given
   committed batch reply given drop plan same is handles =
-      let replied : given ≡ success whole pass op now = same ∙ plan.1 in record {
+      let replied : given ≡ success whole pass op now = same ∙ plan.1 in
+      let next : Tree = effect whole pass op now in
+      let sharing : IsSharing s.now.tables (tables_after batch s.now.tables) whole next =
+      IsSharing-step laws s.now.tables (tables_after batch s.now.tables) whole next (names_drawn whole op) s.served s.represents (laws.size whole pass now op plan.0)
+      (laws.files whole pass now op s.well (no_bytes op carried) (no_copies op carried) plan.0) plan.2 in record {
         passes = plan.0;
         like = same_like op carried (success whole pass op now) given replied;
         stays = record {
-          stands = stepped told before after whole (effect whole pass op now) batch (names_drawn whole op) s plan.2 is (IsWellFormed-effect whole pass now op s.well plan.0) handles;
-          stored = stored_after told before after whole (effect whole pass op now) batch (names_drawn whole op) s plan.2 is laws digest_of objects;
-          backed = backed_after told before after whole (effect whole pass op now) batch (names_drawn whole op) s plan.2 is laws digest_of objects (given ≡ success whole pass op now) replied
-              (laws.size whole pass now op plan.0) (laws.files whole pass now op s.well (no_bytes op carried) (no_copies op carried) plan.0);
+          stands = stepped told before after whole next batch s sharing is (IsWellFormed-effect whole pass now op s.well plan.0) handles;
+          stored = stored_after told before after whole next batch s sharing is laws.shared digest_of objects;
+          backed = backed_after told before after whole next batch s sharing is laws.shared digest_of objects (given ≡ success whole pass op now) replied;
         };
         tells = subst (λ b. IsToldAfter (not (keeps_rows whole pass op)) b (names_drawn whole op) (told before.keeper) (told after.keeper)) (sym (writes_nothing op carried))
             (told_after batch (keeps_rows whole pass op) (names_drawn whole op) (told before.keeper) (told after.keeper) s.now (effect whole pass op now) s.served.valid.ordered.inode_blocks plan.3 is s.tells plan.2);

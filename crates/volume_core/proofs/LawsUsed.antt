@@ -24,6 +24,7 @@ use Rattle.core_model.specs.Safe.{HaveHeld, Held, with_new_objects}
 use Rattle.block_steps.specs.Owed.{KeepsNames}
 use Rattle.byte_steps.specs.Changed.{EndsAt, IsFileChanged, KnowsChanged, stored_length}
 use Rattle.byte_steps.specs.Kept.{KeepsBytes}
+use Rattle.byte_steps.specs.Shared.{SharesBlocks}
 use Rattle.file_ops.specs.FileChanges.{IsFileAt}
 
 -- objects that are drawn
@@ -35,18 +36,25 @@ pub record DrawnLaws : Type 0 where
   pub exact : (digest_of : List ℕ → List ℕ) (t : Tables) (count : ℕ) (over : Overlay) (whole : Tree) → IsExact digest_of t over whole → IsExact digest_of (with_new_objects count t) over whole
   pub blocks : (t : Tables) (count : ℕ) → (with_new_objects count t).blocks ≡ t.blocks
 
--- operations that write no bytes and copy no files
+-- calls that store no block: their files share the blocks of files that were there
+pub record ShareLaws : Type 0 where
+  pub bytes : (m : Contents) (t after : Tables) (whole next : Tree) → IsOrdered t → IsOrdered after → SharesBlocks t after whole next
+      → HasBytes m t no_overlay whole → HasBytes m after no_overlay next
+  pub exact : (digest_of : List ℕ → List ℕ) (t after : Tables) (whole next : Tree) → SharesBlocks t after whole next
+      → IsExact digest_of t no_overlay whole → IsExact digest_of after no_overlay next
+  pub held : (m : Contents) (held : Held) (t after : Tables) (whole next : Tree) → IsOrdered t → IsOrdered after → SharesBlocks t after whole next
+      → HaveHeld m held t.blocks → HaveHeld m held after.blocks
+  pub stored : (digest_of : List ℕ → List ℕ) (held : Held) (t after : Tables) (whole next : Tree) → IsOrdered t → IsOrdered after → SharesBlocks t after whole next
+      → AreHeld digest_of held t.blocks → AreHeld digest_of held after.blocks
+
+-- operations that write no bytes and copy no files are such calls
 pub record NameLaws : Type 0 where
   pub files : (whole : Tree) (pass now : ℕ) (op : Op) → IsWellFormed whole → class_of op ≢ Bytes → copies_files op ≡ false
       → first_failure (checks whole pass op) ≡ None → KeepsBytes whole (effect whole pass op now)
   pub size : (whole : Tree) (pass now : ℕ) (op : Op) → first_failure (checks whole pass op) ≡ None → (effect whole pass op now).block_size ≡ whole.block_size
-  pub bytes : (m : Contents) (t after : Tables) (whole next : Tree) → IsValid t → IsValid after → Represents t whole → Represents after next
-      → LeavesRest t after → next.block_size ≡ whole.block_size → KeepsBytes whole next → HasBytes m t no_overlay whole → HasBytes m after no_overlay next
-  pub exact : (digest_of : List ℕ → List ℕ) (t after : Tables) (whole next : Tree) → IsValid t → IsValid after → Represents t whole → Represents after next
-      → LeavesRest t after → next.block_size ≡ whole.block_size → KeepsBytes whole next → IsExact digest_of t no_overlay whole → IsExact digest_of after no_overlay next
-  pub held : (m : Contents) (held : Held) (t after : Tables) → LeavesRest t after → IsOrdered t → IsOrdered after → HaveHeld m held t.blocks → HaveHeld m held after.blocks
-  pub stored : (digest_of : List ℕ → List ℕ) (held : Held) (t after : Tables) → LeavesRest t after → IsOrdered t → IsOrdered after
-      → AreHeld digest_of held t.blocks → AreHeld digest_of held after.blocks
+  pub shares : (t after : Tables) (whole next : Tree) → IsValid t → Represents t whole → Represents after next → LeavesRest t after
+      → next.block_size ≡ whole.block_size → KeepsBytes whole next → SharesBlocks t after whole next
+  pub shared : ShareLaws
 
 -- a file that gets other bytes: what keeps names keeps the tree, and a changed file has its bytes
 pub record ChangeLaws : Type 0 where

@@ -9,6 +9,7 @@ use Rattle.s3_rows.specs.Keyed.{rises}
 use Rattle.s3_rows.specs.Tables.{Tables, by_spot}
 use Rattle.s3_rows.specs.Batches.{tables_after}
 use Rattle.s3_rows.specs.Told.{Told, IfTold, with_batch}
+use Rattle.s3_rows.specs.Validity.{IsValid, HasUniqueNames}
 use Rattle.s3_devices.specs.Keys.{objects_in}
 use Rattle.s3_devices.specs.Objects.{Objects}
 use Rattle.s3_devices.specs.Told.{Becomes}
@@ -20,6 +21,7 @@ use Rattle.core_model.specs.Bytes.{no_overlay}
 use Rattle.core_model.specs.Occurring.{KnowsAll, blocks_in}
 use Rattle.core_model.specs.Safe.{HaveHeld, with_new_object, with_new_objects}
 use Rattle.byte_steps.specs.Kept.{KeepsBytes}
+use Rattle.byte_steps.specs.Shared.{SharesBlocks}
 use Rattle.file_ops.specs.Placed.{ArePrepared}
 use Rattle.ref_counts.specs.Handles.{HasHandles}
 use Rattle.ref_counts.specs.Plans.{IsStep, LeavesRest, IsSmall, settings}
@@ -30,7 +32,7 @@ use Rattle.volume_core.specs.Causes.{writes_blocks}
 use Rattle.volume_core.specs.Standing.{AreFewTold, AreServed, IsMounted, StandsFor, IsCommitted, IsToldAfter, IsToldAlike}
 use Rattle.volume_core.specs.Refusals.{IsAlike, IsOutcome, IsStill, Stands}
 use Rattle.volume_core.proofs.FewerRows.{few_of_rest}
-use Rattle.volume_core.proofs.LawsUsed.{DrawnLaws, HeldLaws, NameLaws}
+use Rattle.volume_core.proofs.LawsUsed.{DrawnLaws, HeldLaws, NameLaws, ShareLaws}
 use Rattle.op_frames.specs.declared.operation.Op.{Op}
 use Rattle.op_frames.specs.declared.reply.Reply.{Reply}
 use Rattle.s3_rows.specs.declared.keeper.KeeperFault.{KeeperFault}
@@ -221,49 +223,65 @@ state_kept (Some p) (Some q) state same is =
     let equal : settings q ≡ settings p = cc same in
     ap (λ (x : Parameters). Some x.state) equal ∙ is
 
-pub served_after : (t after : Tables) (next : Tree) (drawn : ℕ) → AreServed t → IsStep t after next drawn → AreServed after
-served_after t after next drawn s step = record { valid = step.valid; unique = step.unique s.unique; slots = step.rest.slots ∙ s.slots }
+-- What a call that stores no block makes of valid tables: they stay so, with their settings and slots, and represent the next tree, whose
+-- files share the blocks of files that were there.
+pub record IsSharing (t after : Tables) (whole next : Tree) : Type 0 where
+  pub valid : IsValid after
+  pub represents : Represents after next
+  pub unique : HasUniqueNames after
+  pub params : option_map settings after.params ≡ option_map settings t.params
+  pub slots : after.slots ≡ t.slots
+  pub shares : SharesBlocks t after whole next
 
-mounted_after : (t after : Tables) (next : Tree) (drawn : ℕ) → IsMounted t → IsStep t after next drawn → IsMounted after
-mounted_after t after next drawn is step = state_kept t.params after.params _ step.rest.params is
+-- an operation that writes no bytes and copies no files is such a call
+pub IsSharing-step : (laws : NameLaws) (t after : Tables) (whole next : Tree) (drawn : ℕ) → AreServed t → Represents t whole → next.block_size ≡ whole.block_size
+    → KeepsBytes whole next → IsStep t after next drawn → IsSharing t after whole next
+IsSharing-step laws t after whole next drawn s before size keeps step = record {
+  valid = step.valid;
+  represents = step.represents;
+  unique = step.unique s.unique;
+  params = step.rest.params;
+  slots = step.rest.slots;
+  shares = laws.shares t after whole next s.valid before step.represents step.rest size keeps;
+}
 
 -- what is told after a batch that was committed
 pub committed_told : (batch : List Change) (before after : Option Told) (s : Told) → IsCommitted batch before after → before ≡ Some s → (t : Told) × (after ≡ Some t) × (t.tables ≡ tables_after batch s.tables)
 committed_told [] before after s is tells = (s, is ∙ tells, refl)
 committed_told (c ∷ cs) before after s is tells = (with_batch (c ∷ cs) s, is ∙ ap (option_map (with_batch (c ∷ cs))) tells, refl)
 
-module _ {K : Type 0} (told : K → Option Told) (before after : RowCore K) (whole next : Tree) (batch : List Change) (drawn : ℕ) (s : StandsFor told before whole)
-    (step : IsStep s.now.tables (tables_after batch s.now.tables) next drawn) (committed : IsCommitted batch (told before.keeper) (told after.keeper)) where
+module _ {K : Type 0} (told : K → Option Told) (before after : RowCore K) (whole next : Tree) (batch : List Change) (s : StandsFor told before whole)
+    (step : IsSharing s.now.tables (tables_after batch s.now.tables) whole next) (committed : IsCommitted batch (told before.keeper) (told after.keeper)) where
   told_then : (t : Told) × (told after.keeper ≡ Some t) × (t.tables ≡ tables_after batch s.now.tables)
   told_then = committed_told batch (told before.keeper) (told after.keeper) s.now committed s.tells
 
-  is_step : IsStep s.now.tables told_then.0.tables next drawn
-  is_step = subst (λ (t : Tables). IsStep s.now.tables t next drawn) (sym told_then.2) step
+  is_step : IsSharing s.now.tables told_then.0.tables whole next
+  is_step = subst (λ (t : Tables). IsSharing s.now.tables t whole next) (sym told_then.2) step
 
   -- a batch was committed that makes the tables represent another well-formed tree, whose handles the core has
   pub stepped : IsWellFormed next → HasHandles after.handles next → StandsFor told after next
   stepped well handles = record {
     now = told_then.0;
     tells = told_then.1;
-    served = served_after s.now.tables told_then.0.tables next drawn s.served is_step;
-    mounted = mounted_after s.now.tables told_then.0.tables next drawn s.mounted is_step;
+    served = record { valid = is_step.valid; unique = is_step.unique; slots = is_step.slots ∙ s.served.slots };
+    mounted = state_kept s.now.tables.params told_then.0.tables.params _ is_step.params s.mounted;
     represents = is_step.represents;
     well = well;
     handles = handles;
   }
 
-  -- what is stored, and the bytes of files, where the operation leaves them alone
-  module _ (laws : NameLaws) (digest_of : List ℕ → List ℕ) (objects : Option Objects) where
+  -- what is stored, and the bytes of files
+  module _ (laws : ShareLaws) (digest_of : List ℕ → List ℕ) (objects : Option Objects) where
     pub stored_after : StaysStored digest_of (told before.keeper) (told after.keeper) objects objects
     stored_after =
         fact_told (told before.keeper) s.now (λ t. Becomes (λ o now. AreHeld digest_of (objects_in o) t.blocks → IfTold (told after.keeper) (λ u. AreHeld digest_of (objects_in now) u.blocks)) objects objects) s.tells
         (becomes_itself (λ o now. AreHeld digest_of (objects_in o) s.now.tables.blocks → IfTold (told after.keeper) (λ u. AreHeld digest_of (objects_in now) u.blocks))
         (λ o held.
         fact_told (told after.keeper) told_then.0 (λ u. AreHeld digest_of (objects_in o) u.blocks) told_then.1
-        (laws.stored digest_of (objects_in o) s.now.tables told_then.0.tables is_step.rest s.served.valid.ordered is_step.valid.ordered held)) objects)
+        (laws.stored digest_of (objects_in o) s.now.tables told_then.0.tables whole next s.served.valid.ordered is_step.valid.ordered is_step.shares held)) objects)
 
-    pub backed_after : (fact : Type 0) → fact → next.block_size ≡ whole.block_size → KeepsBytes whole next → GoesOnBacked digest_of fact (told before.keeper) (told after.keeper) objects objects whole next
-    backed_after fact holds size keeps =
+    pub backed_after : (fact : Type 0) → fact → GoesOnBacked digest_of fact (told before.keeper) (told after.keeper) objects objects whole next
+    backed_after fact holds =
         fact_told (told before.keeper) s.now (λ t. Becomes (Relation t) objects objects) s.tells (becomes_itself (Relation s.now.tables) each objects)
       where
         Relation : Tables → Objects → Objects → Type 0
@@ -274,10 +292,10 @@ module _ {K : Type 0} (told : K → Option Told) (before after : RowCore K) (who
           holds,
           fact_told (told after.keeper) told_then.0 (λ u. AreBackedAfter digest_of m s.now.tables u o whole next) told_then.1 (record {
             backed = record {
-              has = laws.bytes m s.now.tables told_then.0.tables whole next s.served.valid is_step.valid s.represents is_step.represents is_step.rest size keeps backed.has;
-              held = laws.held m (objects_in o) s.now.tables told_then.0.tables is_step.rest s.served.valid.ordered is_step.valid.ordered backed.held;
+              has = laws.bytes m s.now.tables told_then.0.tables whole next s.served.valid.ordered is_step.valid.ordered is_step.shares backed.has;
+              held = laws.held m (objects_in o) s.now.tables told_then.0.tables whole next s.served.valid.ordered is_step.valid.ordered is_step.shares backed.held;
             };
-            exact = laws.exact digest_of s.now.tables told_then.0.tables whole next s.served.valid is_step.valid s.represents is_step.represents is_step.rest size keeps;
+            exact = laws.exact digest_of s.now.tables told_then.0.tables whole next is_step.shares;
           }),
         )
 

@@ -17,7 +17,7 @@ ghost use Rattle.volume_core.specs.Standing.{StandsFor};
 use crate::RowCore;
 use crate::refusal::Refusal;
 use crate::rows::commit;
-use byte_steps::operations_on_names_keep_bytes;
+use byte_steps::{operations_on_names_keep_bytes, shared_blocks_keep_bytes};
 use op_frames::{Op, Reply};
 use ref_counts::{Handle, Handles, Plan};
 use s3_base::Errno;
@@ -193,6 +193,7 @@ impl<K: Keeper> RowCore<K> {
         ensures fit { IfOk result (λ reply. IsTrue (is_fit reply)) }
     {
         operations_on_names_keep_bytes();
+        shared_blocks_keep_bytes();
         let plan = inode_ops::plan(self.alloc, &mut self.keeper, &self.handles, pass, op, now)?;
         fulfil(&mut self.keeper, &mut self.handles, pass, op, plan)
     }
@@ -208,6 +209,7 @@ impl<K: Keeper> RowCore<K> {
         ensures fit { IfOk result (λ reply. IsTrue (is_fit reply)) }
     {
         operations_on_names_keep_bytes();
+        shared_blocks_keep_bytes();
         let plan = dir_ops::plan(self.alloc, &mut self.keeper, &self.handles, pass, op, now)?;
         fulfil(&mut self.keeper, &mut self.handles, pass, op, plan)
     }
@@ -223,6 +225,7 @@ impl<K: Keeper> RowCore<K> {
         ensures fit { IfOk result (λ reply. IsTrue (is_fit reply)) }
     {
         operations_on_names_keep_bytes();
+        shared_blocks_keep_bytes();
         let plan = immutable_trees::plan(
             self.alloc,
             &mut self.keeper,

@@ -11,7 +11,8 @@ returns-clause-outcome g c whole objects s =
     let before : RowCore g.row.K.Denot = c.args.self.now in
     let after : RowCore g.row.K.Denot = record { alloc = c.args.self.now.alloc; keeper = c.fulfil.new.keeper; handles = c.fulfil.new.handles } in
     let e = c.operations_on_names_keep_bytes.ensures in
-    let laws : NameLaws = record { files = e.files; size = e.size; bytes = e.bytes; exact = e.exact; held = e.held; stored = e.stored } in
+    let f = c.shared_blocks_keep_bytes.ensures in
+    let laws : NameLaws = record { files = e.files; size = e.size; shares = f.names; shared = record { bytes = f.bytes; exact = f.exact; held = f.held; stored = f.stored } } in
     inodes_so g.K.Keeper.told before after laws sha256 objects whole s c.args.pass c.args.op.now c.args.now c.in_ok-plan.plan c.fulfil.result (g.K.Keeper.told c.plan.new.keeper) c.in_ok-plan.ensures.same c.fulfil.ensures.fulfilled c.requires.op c.in_ok-plan.ensures.plan
 
 pub returns-in_err-plan-clause-outcome : goal.returns-in_err-plan-clause-outcome
