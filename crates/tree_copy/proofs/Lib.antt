@@ -6,6 +6,7 @@ pub mod CopiedPlaces
 pub mod CopiedTrees
 pub mod CopyCome
 pub mod FirstVisits
+pub mod FitCounts
 pub mod NewCopies
 pub mod NextAttrs
 pub mod NextPlaces

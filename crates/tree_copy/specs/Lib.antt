@@ -1,4 +1,5 @@
 pub mod CopiedBytes
+pub mod CopiedCounts
 pub mod CopiedNames
 pub mod CopiedPlaces
 pub mod CopiedRows
