@@ -45,7 +45,7 @@ abbrev by_shape : Order ℕ (ℕ × NodeShape)
 by_shape = record { compare = nat_cmp; key = λ e. e.0 }
 
 -- the nodes of a tree rise where the rows that represent them do
-rises-nodes : (t : Tables) (whole : Tree) → Represents t whole → IsTrue (rises by_inode t.inodes) → IsTrue (rises by_node whole.nodes)
+pub rises-nodes : (t : Tables) (whole : Tree) → Represents t whole → IsTrue (rises by_inode t.inodes) → IsTrue (rises by_node whole.nodes)
 rises-nodes t whole same up =
     sym (back whole.nodes) ∙ ap (λ (s : TreeShape). rises by_shape s.nodes) (sym same) ∙ rises-map by_inode by_shape (λ (r : Inode). (r.id, node_of_row t r)) (λ x y. refl) t.inodes up
   where

@@ -5,6 +5,7 @@ pub mod CountedBlocks
 pub mod CountedObjects
 pub mod CountedPlaces
 pub mod DistinctRows
+pub mod FileCounts
 pub mod KeptFiles
 pub mod OtherLengths
 pub mod PlacedBlocks

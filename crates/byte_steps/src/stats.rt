@@ -1,5 +1,5 @@
 //! How many places, blocks and objects tables have beside their tree.
-ghost use Rattle.std.specs.Prelude.{◌≡◌, ◌==◌, ℕ, List, [], ◌∷◌, Some, length, filter, not, Contains};
+ghost use Rattle.std.specs.Prelude.{◌≡◌, ◌==◌, ℕ, List, [], ◌∷◌, Some, length, filter, not, Contains, count_by};
 ghost use Rattle.plain_tree.specs.Numbers.{InOrder};
 ghost use Rattle.plain_tree.specs.Tree.{Tree};
 ghost use Rattle.s3_rows.specs.Rows.{Block};
@@ -7,10 +7,11 @@ ghost use Rattle.s3_rows.specs.Selections.{block_at};
 ghost use Rattle.s3_rows.specs.Tables.{Tables};
 ghost use Rattle.s3_rows.specs.Validity.{IsValid};
 ghost use Rattle.tree_rows.specs.Shapes.{Represents};
+ghost use Rattle.ref_counts.specs.Links.{places_from};
 ghost use Rattle.core_model.specs.Bytes.{no_overlay};
 ghost use Rattle.core_model.specs.Exact.{IsExact};
 ghost use Rattle.core_model.specs.Occurring.{IsCollisionFree, blocks_in};
-ghost use Rattle.byte_steps.specs.Counts.{HasBytesOf, different_blocks, equal_blocks};
+ghost use Rattle.byte_steps.specs.Counts.{HasBytesOf, blocks_at, different_blocks, equal_blocks};
 
 /// Valid tables whose places are all exact have a place for each block of the tree that is not all zeros, and where no two different
 /// ones collide a block for each different one, which counts the places where the tree has it. As many objects have a block.
@@ -30,4 +31,12 @@ pub fn counts_of_exact_tables()
 pub fn same_bytes_make_as_many_blocks()
     ensures { (whole next : Tree) → InOrder whole → InOrder next → next.block_size ≡ whole.block_size → HasBytesOf whole next → HasBytesOf next whole
         → different_blocks (blocks_in next) ≡ different_blocks (blocks_in whole) }
+{}
+
+/// Of valid tables whose places are all exact, a file has as many places that name a block as its bytes have blocks equal to it, where no
+/// two different ones collide.
+pub fn places_of_files_are_counted()
+    ensures { (digest_of : List ℕ → List ℕ) (t : Tables) (whole : Tree) → IsValid t → Represents t whole → IsExact digest_of t no_overlay whole
+        → IsCollisionFree digest_of (blocks_in whole) → (r : Block) (b : List ℕ) (inode : ℕ) → block_at t r.id ≡ Some r → Contains (blocks_in whole) b → digest_of b ≡ r.digest.0
+        → count_by (λ l. l.block == r.id) (places_from t inode 0) ≡ equal_blocks b (blocks_at whole inode) }
 {}
