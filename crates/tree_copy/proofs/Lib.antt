@@ -16,6 +16,7 @@ pub mod PartialSteps
 pub mod SameCounts
 pub mod SameEntries
 pub mod Stands
+pub mod TreeCounts
 pub mod Visits
 pub mod WalkOrder
 pub mod WholeCopy

@@ -12,7 +12,7 @@ mod walk;
 
 pub use bytes::{copied_trees_keep_bytes, copied_trees_make_no_blocks};
 pub use entries::{CopySpot, copy_visit};
-pub use fits::places_fit_by_their_counts;
+pub use fits::{places_fit_by_their_counts, places_that_do_not_fit_are_of_the_tree};
 pub use laws::{
     copied_names_leave_valid_tables, copied_trees_are_steps, copy_walks_come_to_all,
     directories_and_single_links_are_seen_first, partial_copies_come_to_be_whole,
