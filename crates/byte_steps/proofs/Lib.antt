@@ -1,4 +1,5 @@
 pub mod BlockChanges
+pub mod BlockRows
 pub mod ChangedFiles
 pub mod ChangedNumbers
 pub mod CountedBlocks

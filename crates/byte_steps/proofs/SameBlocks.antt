@@ -84,7 +84,7 @@ rises-nodes_in_order t ordered = rises-Ascend 0 t.nodes t.next_inode ordered
 -- ---- trees
 
 -- the blocks of a tree, at their places
-member_placed : (t : Tree) (q : List ℕ) → list_any (λ (p : Placed). alike q p.1) (placed_blocks t) ≡ is_member alike (blocks_in t) q
+pub member_placed : (t : Tree) (q : List ℕ) → list_any (λ (p : Placed). alike q p.1) (placed_blocks t) ≡ is_member alike (blocks_in t) q
 member_placed t q = list_any-map (alike q) (λ (p : Placed). p.1) (placed_blocks t) ∙ ap (λ (bs : List (List ℕ)). is_member alike bs q) (blocks-placed_blocks t)
 
 module _ (whole next : Tree) (ordered : InOrder whole) (after : InOrder next) (size : next.block_size ≡ whole.block_size) (from : HasBytesOf whole next) where

@@ -17,5 +17,6 @@ pub use names::operations_on_names_keep_bytes;
 pub use prepared::prepared_tables_keep_bytes;
 pub use shared::shared_blocks_keep_bytes;
 pub use stats::{
-    counts_of_exact_tables, places_of_files_are_counted, same_bytes_make_as_many_blocks,
+    blocks_of_exact_tables_have_rows, counts_of_exact_tables, places_of_files_are_counted,
+    same_bytes_make_as_many_blocks,
 };

@@ -40,3 +40,9 @@ pub fn places_of_files_are_counted()
         → IsCollisionFree digest_of (blocks_in whole) → (r : Block) (b : List ℕ) (inode : ℕ) → block_at t r.id ≡ Some r → Contains (blocks_in whole) b → digest_of b ≡ r.digest.0
         → count_by (λ l. l.block == r.id) (places_from t inode 0) ≡ equal_blocks b (blocks_at whole inode) }
 {}
+
+/// Where all places of valid tables are exact, each block of the tree that is not all zeros has a row, with its digest.
+pub fn blocks_of_exact_tables_have_rows()
+    ensures { (digest_of : List ℕ → List ℕ) (t : Tables) (whole : Tree) → IsValid t → Represents t whole → IsExact digest_of t no_overlay whole
+        → (b : List ℕ) → Contains (blocks_in whole) b → (r : Block) × (block_at t r.id ≡ Some r) × (digest_of b ≡ r.digest.0) }
+{}
