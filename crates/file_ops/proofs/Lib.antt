@@ -24,6 +24,7 @@ mod PlacedForms
 mod PutObjects
 mod Puts
 mod Ranges
+mod Room
 mod StoredPlaces
 mod Trimmed
 mod WrittenFiles

@@ -24,7 +24,7 @@ use Rattle.block_steps.specs.Owed.{KeepsNames, next_block_of}
 use Rattle.byte_steps.specs.Changed.{KnowsChanged}
 use Rattle.file_ops.specs.declared.new_block.NewBlock.{NewBlock}
 use Rattle.file_ops.specs.FileBytes.{IsFile}
-use Rattle.file_ops.specs.NewBlocks.{AreBlocksOf, AreShort, numbers_of}
+use Rattle.file_ops.specs.NewBlocks.{AreBlocksOf, AreShort, blocks_at, numbers_of}
 use Rattle.file_ops.specs.Placed.{HaveTheirForms, IsWornFor, KnowsBlocks, is_placed}
 
 -- the row of a file that has other bytes from now on
@@ -57,6 +57,11 @@ pub record AreWorn (digest_of : List ℕ → List ℕ) (t : Tables) (objects : O
   pub numbers : numbers_of blocks ≡ changed
   pub stored : stores.IfTold objects (λ o. (old : List ℕ) → IsFile t o file.id file.size block_size old → AreBlocksOf block_size (new old) blocks)
   pub worn : IsWornFor digest_of t batch blocks
+
+-- Whatever bytes the file had, in tables and a store, there is a number and a count for each of its changed blocks, after this batch.
+abbrev pub HaveRoom : (List ℕ → List ℕ) → Tables → Objects → Inode → ℕ → (List ℕ → List ℕ) → List ℕ → List Change → Type 0
+HaveRoom digest_of t o file block_size new changed batch =
+    (old : List ℕ) → IsFile t o file.id file.size block_size old → IsWornFor digest_of t batch (blocks_at block_size (new old) changed) → ⊥
 
 -- The file has its row and its blocks: these have their forms where contents know them, and all other places within its length, and
 -- those of other files, are as before.

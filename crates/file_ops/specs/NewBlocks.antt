@@ -11,6 +11,10 @@ numbers_of blocks = map (λ b. b.blockno) blocks
 abbrev pub AreBlocksOf : ℕ → List ℕ → List NewBlock → Type 0
 AreBlocksOf block_size file blocks = All (λ b. b.stored ≡ trimmed (piece_of block_size file b.blockno)) blocks
 
+-- the blocks of a file under these numbers
+abbrev pub blocks_at : ℕ → List ℕ → List ℕ → List NewBlock
+blocks_at block_size file numbers = map (λ n. record { blockno = n; stored = trimmed (piece_of block_size file n) }) numbers
+
 -- none has more bytes than a block
 abbrev pub AreShort : ℕ → List NewBlock → Type 0
 AreShort block_size blocks = All (λ b. length b.stored ≤ block_size) blocks

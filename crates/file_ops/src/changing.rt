@@ -1,5 +1,5 @@
 //! The batches by which a file is written, and by which it gets another length.
-ghost use Rattle.std.specs.Prelude.{◌≡◌, ℕ, ◌<◌, ◌≤◌, ◌^◌, ◌+◌, ◌*◌, ◌∷◌, [], All, false, length, max, nat_lt, if◌then◌else◌, IfOk, IfErr};
+ghost use Rattle.std.specs.Prelude.{◌≡◌, ℕ, ◌<◌, ◌≤◌, ◌^◌, ◌+◌, ◌*◌, ◌∷◌, [], All, false, length, max, nat_lt, if◌then◌else◌, IfOk, IfErr, OnOk};
 ghost use Rattle.sha2.specs.Sha256.{sha256};
 ghost use Rattle.s3_base.specs.Faults.{HasCause};
 ghost use Rattle.s3_rows.specs.declared.change.Change.TheVariants as changes;
@@ -18,7 +18,7 @@ ghost use Rattle.tree_rows.specs.Contents.{Contents};
 ghost use Rattle.byte_steps.specs.Changed.{stored_length};
 ghost use Rattle.file_ops.specs.declared.file_fault.FileFault.TheVariants.{Worn};
 ghost use Rattle.file_ops.specs.FileBytes.{IfBothTold, stored_in};
-ghost use Rattle.file_ops.specs.FileChanges.{AreFew, AreInFile, AreWithin, AreWorn, GetsBytes, HoldsBytes, IsFileAt, IsFileStep, KeepsObjects, with_length};
+ghost use Rattle.file_ops.specs.FileChanges.{AreFew, AreInFile, AreWithin, AreWorn, GetsBytes, HaveRoom, HoldsBytes, IsFileAt, IsFileStep, KeepsObjects, with_length};
 ghost use Rattle.file_ops.specs.FileFaults.{IsLossAmong, is_lost, keeper_failed, link_failed};
 ghost use Rattle.file_ops.specs.Placed.{ArePrepared, IsWornFor, KnowsBlocks};
 
@@ -71,6 +71,7 @@ fn place_within<K: Keeper, L: Link>(
     ensures drawn { IfTold (K.told keeper.old) (λ t. IfTold (K.told keeper.new) (λ later. AreFew (length blocks.now) t later)) }
     ensures kept { KeepsObjects (K.told keeper.old) (L.told link.old) (L.told link.new) }
     ensures worn { IfErr result (λ fault. fault ≡ Worn → IfTold (K.told keeper.old) (λ t. IsWornFor sha256 t (changes.PutInode (with_length size now file.now) ∷ []) blocks.now)) }
+    ensures room { OnOk result (IfTold (K.told keeper.old) (λ t. IsWornFor sha256 t (changes.PutInode (with_length size now file.now) ∷ []) blocks.now → ⊥)) }
     ensures found_all { is_lost result ≡ false }
     ensures keeper { HasCause (K.faults keeper.old) (K.faults keeper.new) (keeper_failed result) }
     ensures link { HasCause (L.faults link.old) (L.faults link.new) (link_failed result) }
@@ -121,6 +122,7 @@ fn place_and_cut<K: Keeper, L: Link>(
     ensures drawn { IfTold (K.told keeper.old) (λ t. IfTold (K.told keeper.new) (λ later. AreFew (length blocks.now) t later)) }
     ensures kept { KeepsObjects (K.told keeper.old) (L.told link.old) (L.told link.new) }
     ensures worn { IfErr result (λ fault. fault ≡ Worn → IfTold (K.told keeper.old) (λ t. IsWornFor sha256 t [] blocks.now)) }
+    ensures room { OnOk result (IfTold (K.told keeper.old) (λ t. IsWornFor sha256 t [] blocks.now → ⊥)) }
     ensures found_all { is_lost result ≡ false }
     ensures keeper { HasCause (K.faults keeper.old) (K.faults keeper.new) (keeper_failed result) }
     ensures link { HasCause (L.faults link.old) (L.faults link.new) (link_failed result) }
@@ -168,6 +170,9 @@ pub fn write_file<K: Keeper, L: Link>(
     ensures lost { IfErr result (IsLossAmong sha256 (K.told keeper.old) (L.told link.old) file.now.id
         (λ t. needed_by_write block_size off (length new.now) (blocks_of_write block_size off (length new.now) file.now.size (stored_in t file.now.id)))) }
     ensures worn { IfErr result (λ fault. fault ≡ Worn → IfTold (K.told keeper.old) (λ t. AreWorn sha256 t (L.told link.old) file.now block_size (written_at off new.now)
+        (blocks_of_write block_size off (length new.now) file.now.size (stored_in t file.now.id))
+        (changes.PutInode (with_length (max file.now.size (off + length new.now)) now file.now) ∷ []))) }
+    ensures room { OnOk result (IfBothTold (K.told keeper.old) (L.told link.old) (λ t o. HaveRoom sha256 t o file.now block_size (written_at off new.now)
         (blocks_of_write block_size off (length new.now) file.now.size (stored_in t file.now.id))
         (changes.PutInode (with_length (max file.now.size (off + length new.now)) now file.now) ∷ []))) }
     ensures keeper { HasCause (K.faults keeper.old) (K.faults keeper.new) (keeper_failed result) }
@@ -218,6 +223,9 @@ pub fn resize_file<K: Keeper, L: Link>(
     ensures lost { IfErr result (IsLossAmong sha256 (K.told keeper.old) (L.told link.old) file.now.id
         (λ t. blocks_of_resize block_size len file.now.size (stored_in t file.now.id))) }
     ensures worn { IfErr result (λ fault. fault ≡ Worn → IfTold (K.told keeper.old) (λ t. AreWorn sha256 t (L.told link.old) file.now block_size (resized len)
+        (blocks_of_resize block_size len file.now.size (stored_in t file.now.id))
+        (if nat_lt len file.now.size then [] else changes.PutInode (with_length len now file.now) ∷ []))) }
+    ensures room { OnOk result (IfBothTold (K.told keeper.old) (L.told link.old) (λ t o. HaveRoom sha256 t o file.now block_size (resized len)
         (blocks_of_resize block_size len file.now.size (stored_in t file.now.id))
         (if nat_lt len file.now.size then [] else changes.PutInode (with_length len now file.now) ∷ []))) }
     ensures keeper { HasCause (K.faults keeper.old) (K.faults keeper.new) (keeper_failed result) }

@@ -160,6 +160,7 @@ fn prepare_blocks<K: Keeper, L: Link>(
     ensures drawn { IfTold (K.told keeper.old) (λ t. IfTold (K.told keeper.new) (λ later. AreFew (length blocks.now) t later)) }
     ensures others { IfTold (K.told keeper.old) (λ t. Becomes (KeepsOldObjects (places_in sha256 t blocks.now)) (L.told link.old) (L.told link.new)) }
     ensures worn { IfErr result (λ fault. fault ≡ Worn → IfTold (K.told keeper.old) (λ t. LacksNumbers sha256 t blocks.now)) }
+    ensures room { OnOk result (IfTold (K.told keeper.old) (λ t. LacksNumbers sha256 t blocks.now → ⊥)) }
     ensures found_all { is_lost result ≡ false }
     ensures keeper { HasCause (K.faults keeper.old) (K.faults keeper.new) (keeper_failed result) }
     ensures link { HasCause (L.faults link.old) (L.faults link.new) (link_failed result) }
@@ -199,6 +200,7 @@ pub fn place_blocks<K: Keeper, L: Link>(
     ensures drawn { IfTold (K.told keeper.old) (λ t. IfTold (K.told keeper.new) (λ later. AreFew (length blocks.now) t later)) }
     ensures others { IfTold (K.told keeper.old) (λ t. Becomes (KeepsOldObjects (places_in sha256 t blocks.now)) (L.told link.old) (L.told link.new)) }
     ensures worn { IfErr result (λ fault. fault ≡ Worn → IfTold (K.told keeper.old) (λ t. IsWornFor sha256 t batch.old blocks.now)) }
+    ensures room { OnOk result (IfTold (K.told keeper.old) (λ t. IsWornFor sha256 t batch.old blocks.now → ⊥)) }
     ensures placed { OnOk result (IfTold (K.told keeper.new) (λ t. ArePlaceable t batch.old inode blocks.now
         → ArePlaced (tables_after batch.old t) (tables_after batch.new t) inode blocks.now)) }
     ensures forms { OnOk result (IfTold (K.told keeper.new) (λ t. ArePlaceable t batch.old inode blocks.now

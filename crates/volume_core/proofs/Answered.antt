@@ -142,6 +142,7 @@ module _ {K : Type 0} (told : K → Option Told) (before after : RowCore K) (dig
             subst (λ r. IsLike op r reply) (sym own) o.like,
             subst (λ b. IsToldAfter b (writes_blocks op) (names_drawn whole op) (told before.keeper) (told after.keeper)) (sym (by_rules (is_built op) refl built None o.passes)) o.tells,
             λ _ lacks. o.unworn lacks.1,
+            λ _ _. o.room,
           );
           stored = o.stays.stored;
           backed = subst (λ n. GoesOnBacked digest_of (IsExactReply whole (record { call = call; reply = reply })) (told before.keeper) (told after.keeper) objects later whole n) (sym next)
@@ -170,6 +171,9 @@ module _ {K : Type 0} (told : K → Option Told) (before after : RowCore K) (dig
           λ _ lacks.
               let clash : Some errno.0 ≡ None = sym o.0 ∙ lacks.0 in
               cc clash,
+          λ _ passes.
+              let clash : Some errno.0 ≡ None = sym o.0 ∙ passes in
+              absurd (cc clash),
         ))
 
     forced : (reply : Reply) → leaves_tree reply ≡ true → is_bytes reply ≡ false → IsForced risen failed digest_of (told before.keeper) objects whole call reply
@@ -208,6 +212,9 @@ module _ {K : Type 0} (told : K → Option Told) (before after : RowCore K) (dig
             λ built _.
                 let clash : IsTrue false = subst IsTrue unbuilt built in
                 cc clash,
+            λ built _.
+                let clash : IsTrue false = subst IsTrue unbuilt built in
+                absurd (cc clash),
           );
           stored = stored_still told before after digest_of objects whole s still_told;
           backed = backed_still told before after digest_of objects whole s still_told (IsExactReply whole (record { call = call; reply = replies.Errno (record { 0 = 38 }) }))

@@ -34,6 +34,7 @@ use Rattle.volume_core.specs.Plans.{IsTaken, IsFault, IsFull, IsOpening, IsFulfi
 use Rattle.volume_core.specs.Standing.{StandsFor, IsCommitted, IsToldAfter}
 use Rattle.volume_core.specs.Refusals.{IsDone, IsStill, IsOutcome}
 use Rattle.volume_core.proofs.Effects.{Fulfils, fulfils, no_bytes, no_copies, same_like, writes_nothing}
+use Rattle.volume_core.proofs.FileRoom.{no_blocks_room}
 use Rattle.volume_core.proofs.LawsUsed.{NameLaws}
 use Rattle.volume_core.proofs.Standing.{told_fact, fact_told, is_still, still_alike, IsSharing, IsSharing-step, stepped, stored_after, backed_after, told_after}
 
@@ -72,6 +73,7 @@ module _ {K : Type 0} (told : K → Option Told) (before after : RowCore K) (law
         tells = subst (λ b. IsToldAfter (not (keeps_rows whole pass op)) b (names_drawn whole op) (told before.keeper) (told after.keeper)) (sym (writes_nothing op carried))
             (told_after batch (keeps_rows whole pass op) (names_drawn whole op) (told before.keeper) (told after.keeper) s.now (effect whole pass op now) s.served.valid.ordered.inode_blocks plan.3 is s.tells plan.2);
         unworn = λ worn. plan.5 (told_fact (told before.keeper) s.now (λ t. IsWorn t whole op) s.tells worn);
+        room = no_blocks_room digest_of (told before.keeper) objects whole pass op now (writes_nothing op carried);
       }
 
   -- a plan that is taken, with the handles of the tree after where it succeeds

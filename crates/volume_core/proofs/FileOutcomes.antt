@@ -31,6 +31,7 @@ use Rattle.volume_core.specs.Refusals.{HasLength, IsAlike, IsOutcome, IsStill, r
 use Rattle.volume_core.specs.Rows.{IsFound, IsSizeRefusal}
 use Rattle.volume_core.specs.Standing.{StandsFor}
 use Rattle.volume_core.proofs.Changed.{size-row}
+use Rattle.volume_core.proofs.FileRoom.{no_blocks_room}
 use Rattle.volume_core.proofs.Looking.{IsOpenFile}
 use Rattle.volume_core.proofs.Standing.{backed_still, still, still_alike, stored_still, told_fact}
 
@@ -105,6 +106,7 @@ was_synced told before after digest_of objects whole s pass handle now passes sa
   };
   tells = same;
   unworn = told_fact (told before.keeper) s.now (λ t. IsWorn t whole (ops.Fsync handle)) s.tells;
+  room = no_blocks_room digest_of (told before.keeper) objects whole pass (ops.Fsync handle) now refl;
 }
 
 -- ---- Read
@@ -145,6 +147,7 @@ module _ {K : Type 0} (told : K → Option Told) (before after : RowCore K) (dig
     };
     tells = same;
     unworn = told_fact (told before.keeper) s.now (λ t. IsWorn t whole read) s.tells;
+    room = no_blocks_room digest_of (told before.keeper) objects whole pass read now refl;
   }
     where
       exactly : (x : Objects) (m : List (List ℕ × List ℕ)) → IsBacked m s.now.tables x whole → objects ≡ Some x → replies.Bytes out ≡ success whole pass read now

@@ -34,12 +34,13 @@ use Rattle.file_ops.specs.FileFaults.{IsLossAmong}
 use Rattle.file_ops.specs.Placed.{ArePrepared}
 use Rattle.ref_counts.specs.Plans.{IsWorn}
 use Rattle.volume_core.specs.declared.row_core.RowCore.{RowCore}
-use Rattle.volume_core.specs.Causes.{AreWornBlocks, LacksBlocks, file_used, length_of_file, needed_by}
+use Rattle.volume_core.specs.Causes.{AreWornBlocks, HasRoom, LacksBlocks, file_used, length_of_file, needed_by}
 use Rattle.volume_core.specs.Refusals.{IsDone, Stands}
 use Rattle.volume_core.specs.Standing.{AreFewTold, StandsFor, IsToldAfter}
 use Rattle.volume_core.proofs.ChangedNodes.{changed_file, length-resized, length-written}
 use Rattle.volume_core.proofs.FileDone.{drawn_tables, ends_at, file_reply, file_stays, file_told, next_tree, positive_length}
 use Rattle.volume_core.proofs.FileOutcomes.{length_is, same_loss}
+use Rattle.volume_core.proofs.FileRoom.{no_bytes_room}
 use Rattle.volume_core.proofs.LawsUsed.{ChangeLaws, DrawnLaws}
 use Rattle.volume_core.proofs.Looking.{IsOpenFile}
 use Rattle.volume_core.proofs.Standing.{fact_told, told_fact, backed_still, still, stored_still}
@@ -85,7 +86,8 @@ module _ {K : Type 0} (told : K → Option Told) (before after : RowCore K) (dig
         (held : IfTold middle (λ t. IsFileAt t r block_size → Becomes (λ o now. AreHeld digest_of (objects_in o) t.blocks → AreHeld digest_of (objects_in now) (tables_after batch t).blocks) objects later))
         (gets : IfBothTold (told before.keeper) objects (λ t o. IfTold middle (λ x. GetsBytes digest_of t o x (tables_after batch x) r block_size (written_at offset bytes) (written t block_size))))
         (bytes_held : IfBothTold (told before.keeper) objects (λ t o. IfTold middle (λ x. HoldsBytes digest_of t o x (tables_after batch x) later r block_size (written_at offset bytes) (written t block_size))))
-        (passes : first_failure (checks whole pass write) ≡ None) (few : AreFewTold (told before.keeper) (told after.keeper)) where
+        (passes : first_failure (checks whole pass write) ≡ None) (few : AreFewTold (told before.keeper) (told after.keeper))
+        (room : HasRoom digest_of (told before.keeper) objects whole pass write now) where
       abbrev after_write : Tree
       after_write = next_tree told before after digest_of objects later whole s drawn_laws laws r size now block_size (written_at offset bytes) written there regular written_long middle batch prepared same_size stepped held gets bytes_held tells committed handles
 
@@ -116,6 +118,7 @@ module _ {K : Type 0} (told : K → Option Told) (before after : RowCore K) (dig
         tells = subst (λ b. IsToldAfter (not b) true 0 (told before.keeper) (told after.keeper)) (sym some)
             (file_told told before after digest_of objects later whole s drawn_laws laws r size now block_size (written_at offset bytes) written there regular written_long middle batch prepared same_size stepped held gets bytes_held tells committed handles few);
         unworn = told_fact (told before.keeper) s.now (λ t. IsWorn t whole write) s.tells;
+        room = room;
       }
 
   -- ---- Truncate
@@ -134,7 +137,8 @@ module _ {K : Type 0} (told : K → Option Told) (before after : RowCore K) (dig
         (held : IfTold middle (λ t. IsFileAt t r block_size → Becomes (λ o now. AreHeld digest_of (objects_in o) t.blocks → AreHeld digest_of (objects_in now) (tables_after batch t).blocks) objects later))
         (gets : IfBothTold (told before.keeper) objects (λ t o. IfTold middle (λ x. GetsBytes digest_of t o x (tables_after batch x) r block_size (resized len) (cut t block_size))))
         (bytes_held : IfBothTold (told before.keeper) objects (λ t o. IfTold middle (λ x. HoldsBytes digest_of t o x (tables_after batch x) later r block_size (resized len) (cut t block_size))))
-        (passes : first_failure (checks whole pass truncate) ≡ None) (few : AreFewTold (told before.keeper) (told after.keeper)) where
+        (passes : first_failure (checks whole pass truncate) ≡ None) (few : AreFewTold (told before.keeper) (told after.keeper))
+        (room : HasRoom digest_of (told before.keeper) objects whole pass truncate now) where
       abbrev after_truncate : Tree
       after_truncate = next_tree told before after digest_of objects later whole s drawn_laws laws r len now block_size (resized len) cut there regular resized_long middle batch prepared same_size stepped held gets bytes_held tells committed handles
 
@@ -168,6 +172,7 @@ module _ {K : Type 0} (told : K → Option Told) (before after : RowCore K) (dig
                 (subst (λ k. IsFileChanged digest_of t then_cut whole after_truncate r.id (resized len old) (blocks_of_resize whole.block_size len k (stored_length t r.id))) (sym long) changed) exact));
             tells = file_told told before after digest_of objects later whole s drawn_laws laws r len now block_size (resized len) cut there regular resized_long middle batch prepared same_size stepped held gets bytes_held tells committed handles few;
             unworn = told_fact (told before.keeper) s.now (λ t. IsWorn t whole truncate) s.tells;
+            room = room;
           }
 
 -- ---- a Write of no bytes
@@ -187,6 +192,7 @@ nothing_written told before after digest_of objects whole s pass handle offset b
       });
       tells = subst (λ b. IsToldAfter (not b) true 0 (told before.keeper) (told after.keeper)) (sym empty) same;
       unworn = told_fact (told before.keeper) s.now (λ t. IsWorn t whole (ops.Write handle offset bytes)) s.tells;
+      room = no_bytes_room digest_of (told before.keeper) objects whole pass handle offset bytes now empty;
     }
 
 -- ---- causes

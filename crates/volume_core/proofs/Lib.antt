@@ -7,6 +7,7 @@ mod FileCalls
 mod FileChecks
 mod FileDone
 mod FileOutcomes
+mod FileRoom
 mod FilesWritten
 mod LawsUsed
 mod Looking

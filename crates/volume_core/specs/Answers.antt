@@ -18,7 +18,7 @@ use Rattle.volume_core.specs.declared.refusal.Refusal.{Refusal}
 use Rattle.volume_core.specs.declared.refusal.Refusal.TheVariants.{Refused, Worn, Keeper, Link, Lost, Memory}
 use Rattle.volume_core.specs.declared.row_core.RowCore.{RowCore}
 use Rattle.volume_core.specs.Backed.{GoesOnBacked, StaysStored}
-use Rattle.volume_core.specs.Causes.{IsLossFor, LacksBlocks, writes_blocks}
+use Rattle.volume_core.specs.Causes.{HasRoom, IsLossFor, LacksBlocks, writes_blocks}
 use Rattle.volume_core.specs.Refusals.{IsLike}
 use Rattle.volume_core.specs.Standing.{StandsFor, IsToldAfter, IsToldAlike}
 
@@ -68,12 +68,13 @@ IsForced risen failed digest_of before objects whole call reply =
     ⊎ IsLostReply digest_of before objects whole call reply
 
 -- The reply is like that of the core's rules, one batch more is told where rows are changed, but for objects that were drawn before it,
--- and no count or id of a name or an inode that is needed is worn; or the reply is outside the rules, and nothing more is told but
+-- and no count or id that is needed is worn, of a name, an inode or a block; or the reply is outside the rules, and nothing more is told but
 -- objects that were drawn.
 abbrev pub IsRowAnswer : Type 0 → Type 0 → (List ℕ → List ℕ) → Option Told → Option Told → Option Objects → Tree → Request → Reply → Type 0
 IsRowAnswer risen failed digest_of before after objects whole call reply =
     (IsLike call.op (core_reply whole call) reply × IsToldAfter (changes_rows whole call) (writes_blocks call.op) (names_drawn whole call.op) before after
-    × (IsTrue (is_built call.op) → LacksName before whole call → ⊥))
+    × (IsTrue (is_built call.op) → LacksName before whole call → ⊥)
+    × (IsTrue (is_built call.op) → first_failure (checks whole call.pass call.op) ≡ None → HasRoom digest_of before objects whole call.pass call.op call.now))
     ⊎ (IsTrue (is_built call.op) × IsForced risen failed digest_of before objects whole call reply × IsToldAlike (writes_blocks call.op) before after)
 
 -- the call with its reply

@@ -14,8 +14,8 @@ use Rattle.s3_rows.specs.Told.{Told, IfTold}
 use Rattle.s3_devices.specs.Objects.{Objects}
 use Rattle.core_model.specs.Changes.{blocks_of_resize, blocks_of_write, needed_by_write, touched_blocks}
 use Rattle.file_ops.specs.declared.file_fault.FileFault.TheVariants as faults
-use Rattle.file_ops.specs.FileBytes.{stored_in}
-use Rattle.file_ops.specs.FileChanges.{AreWorn, with_length}
+use Rattle.file_ops.specs.FileBytes.{IfBothTold, stored_in}
+use Rattle.file_ops.specs.FileChanges.{AreWorn, HaveRoom, with_length}
 use Rattle.file_ops.specs.FileFaults.{IsLossAmong}
 use Rattle.ref_counts.specs.Plans.{IsWorn}
 
@@ -65,3 +65,19 @@ AreWornBlocks digest_of t objects whole r now _ = ⊥
 abbrev pub LacksBlocks : (List ℕ → List ℕ) → Option Told → Option Objects → Tree → ℕ → Op → ℕ → Type 0
 LacksBlocks digest_of before objects whole pass op now =
     IfTold before (λ t. IsWorn t whole op ⊎ ((r : Inode) × (inode_at t (file_used whole pass op) ≡ Some r) × AreWornBlocks digest_of t objects whole r now op))
+
+-- there is a number and a count for each block that it writes into a file, whatever bytes that has
+abbrev pub HaveRoomFor : (List ℕ → List ℕ) → Tables → Objects → Tree → Inode → ℕ → Op → Type 0
+HaveRoomFor digest_of t o whole r now (ops.Truncate inode size) =
+    HaveRoom digest_of t o r whole.block_size (resized size) (blocks_of_resize whole.block_size size r.size (stored_in t r.id))
+    (if nat_lt size r.size then [] else changes.PutInode (with_length size now r) ∷ [])
+HaveRoomFor digest_of t o whole r now (ops.Write handle offset []) = Unit {0}
+HaveRoomFor digest_of t o whole r now (ops.Write handle offset (b ∷ bytes)) =
+    HaveRoom digest_of t o r whole.block_size (written_at offset (b ∷ bytes)) (blocks_of_write whole.block_size offset (length (b ∷ bytes)) r.size (stored_in t r.id))
+    (changes.PutInode (with_length (max r.size (offset + length (b ∷ bytes))) now r) ∷ [])
+HaveRoomFor digest_of t o whole r now _ = Unit {0}
+
+-- none of them is worn, where tables and store are told
+abbrev pub HasRoom : (List ℕ → List ℕ) → Option Told → Option Objects → Tree → ℕ → Op → ℕ → Type 0
+HasRoom digest_of before objects whole pass op now =
+    IfBothTold before objects (λ t o. (r : Inode) → inode_at t (file_used whole pass op) ≡ Some r → HaveRoomFor digest_of t o whole r now op)

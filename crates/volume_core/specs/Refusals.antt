@@ -17,7 +17,7 @@ use Rattle.volume_core.specs.declared.refusal.Refusal.{Refusal}
 use Rattle.volume_core.specs.declared.refusal.Refusal.TheVariants.{Refused, Worn, Keeper, Link, Lost, Memory}
 use Rattle.volume_core.specs.declared.row_core.RowCore.{RowCore}
 use Rattle.volume_core.specs.Backed.{GoesOnBacked, StaysStored}
-use Rattle.volume_core.specs.Causes.{IsLossFor, LacksBlocks, writes_blocks}
+use Rattle.volume_core.specs.Causes.{HasRoom, IsLossFor, LacksBlocks, writes_blocks}
 use Rattle.volume_core.specs.Standing.{StandsFor, IsToldAfter, IsToldAlike}
 
 -- the refusal by a fault of blocks
@@ -75,14 +75,15 @@ module _ {K : Type 0} (told : K → Option Told) (before after : RowCore K) (dig
     pub stays : Stands (Unit {0}) whole
     pub alike : IsToldAlike (writes_blocks op) (told before.keeper) (told after.keeper)
 
-  -- no check of the operation fails, no count or id of a name or an inode that is needed is worn, the reply is like that of the
-  -- operation's success, and the very same where the bytes are there, and the core stands for the tree after it
+  -- no check of the operation fails, no count or id that is needed is worn, of a name, an inode or a block, the reply is like that of
+  -- the operation's success, and the very same where the bytes are there, and the core stands for the tree after it
   pub record IsDone (pass : ℕ) (op : Op) (now : ℕ) (reply : Reply) : Type 0 where
     pub passes : first_failure (checks whole pass op) ≡ None
     pub like : IsLike op (success whole pass op now) reply
     pub stays : Stands (reply ≡ success whole pass op now) (effect whole pass op now)
     pub tells : IsToldAfter (not (keeps_rows whole pass op)) (writes_blocks op) (names_drawn whole op) (told before.keeper) (told after.keeper)
     pub unworn : IfTold (told before.keeper) (λ t. IsWorn t whole op) → ⊥
+    pub room : HasRoom digest_of (told before.keeper) objects whole pass op now
 
   -- Refused: the first check that fails has this number. Worn and Lost: no check fails, and the cause is there. After each refusal
   -- the tree is as before.

@@ -1,12 +1,12 @@
-use Rattle.std.proofs.Common.{◌≡◌, ◌≤◌, ◌∷◌, [], List, ℕ, length, refl, Option, Bool, cond, sym, ap, subst, arith}
-use Rattle.std.specs.Prelude.{◌==◌, IfErr, IfOk, IsTrue}
+use Rattle.std.proofs.Common.{◌≡◌, ◌≤◌, ◌∷◌, [], List, length, refl, Option, Bool, cond, sym, ap, subst, arith}
+use Rattle.std.specs.Prelude.{◌==◌, IfErr, IfOk, IsTrue, OnOk}
 use Rattle.sha2.specs.Sha256.{sha256}
 use Rattle.block_math.specs.Changes.{resized}
 use Rattle.block_math.proofs.LengthLemmas.{length-resized}
 use Rattle.core_model.specs.Changes.{blocks_of_resize}
 use Rattle.s3_rows.specs.declared.change.Change.{Change}
 use Rattle.s3_rows.specs.declared.change.Change.TheVariants as changes
-use Rattle.s3_rows.specs.Tables.{IsOrdered, Tables}
+use Rattle.s3_rows.specs.Tables.{IsOrdered}
 use Rattle.s3_rows.specs.Batches.{tables_after}
 use Rattle.s3_rows.specs.Rows.{Inode}
 use Rattle.s3_rows.specs.Stores.{AreHeld}
@@ -20,11 +20,12 @@ use Rattle.core_model.specs.Safe.{HaveHeld}
 use Rattle.ref_counts.proofs.Told.{IfTold-all, IfTold-weaker}
 use Rattle.file_ops.specs.declared.file_fault.FileFault.TheVariants.{Worn}
 use Rattle.file_ops.specs.declared.new_block.NewBlock.{NewBlock}
-use Rattle.file_ops.specs.FileBytes.{IfFile, stored_in}
-use Rattle.file_ops.specs.FileChanges.{AreFew, AreInFile, AreWorn, IsFileAt, with_length, KeepsObjects}
+use Rattle.file_ops.specs.FileBytes.{IfBothTold, IfFile, stored_in}
+use Rattle.file_ops.specs.FileChanges.{AreFew, AreInFile, AreWorn, HaveRoom, IsFileAt, with_length, KeepsObjects}
 use Rattle.file_ops.specs.NewBlocks.{AreBlocksOf, numbers_of}
 use Rattle.file_ops.specs.Placed.{ArePrepared, IsWornFor, KnowsBlocks}
 use Rattle.file_ops.proofs.ChangedNumbers.{distinct_of_resize}
+use Rattle.file_ops.proofs.Room.{room_answer}
 use Rattle.file_ops.proofs.WrittenFiles.{bytes_answer, changed_answer, grown_answer, is_less, is_not_less, less_answer, step_answer, worn_answer}
 use Rattle.file_ops.proofs.FewPlaces.{few_answer, few_more, resized_few, told_both, told_few_same}
 use Rattle.file_ops.proofs.FileSteps.{IfOk-weaker}
@@ -307,3 +308,45 @@ returns-clause-drawn g c =
 pub returns-in_err-blocks-clause-drawn : goal.returns-in_err-blocks-clause-drawn
 returns-in_err-blocks-clause-drawn g c =
     told_few_same 2 (g.K.Keeper.told c.args.keeper.now) (g.K.Keeper.told c.resized_blocks.new.keeper) c.resized_blocks.ensures.keeper_same
+
+pub returns-then-len-file-clause-room : goal.returns-then-len-file-clause-room
+returns-then-len-file-clause-room g c =
+    let file = c.args.file.now in
+    let blocks = c.in_ok-blocks.blocks.items in
+    let before = g.K.Keeper.told c.args.keeper.now in
+    let objects = g.L.Link.told c.args.link.now in
+    let numbers : IfTold before (λ t. numbers_of blocks ≡ blocks_of_resize c.args.block_size c.args.len file.size (stored_in t file.id)) =
+    subst (λ (r : Inode). IfTold before (λ t. numbers_of blocks ≡ blocks_of_resize c.args.block_size c.args.len r.size (stored_in t r.id))) c.file.view_is c.in_ok-blocks.ensures.numbers in
+    let own : c.file.inside.size ≡ file.size = ap (λ (r : Inode). r.size) c.file.view_is in
+    let stored : IfFile before objects file.id file.size c.args.block_size (λ old. AreBlocksOf c.args.block_size (resized c.args.len old) blocks) =
+    subst (λ (r : Inode). IfFile before objects r.id r.size c.args.block_size (λ old. AreBlocksOf c.args.block_size (resized c.args.len old) blocks)) c.file.view_is c.in_ok-blocks.ensures.stored in
+    subst
+    (λ (b : Bool). OnOk c.place_and_cut.result (IfBothTold before objects (λ t o. HaveRoom sha256 t o file c.args.block_size (resized c.args.len)
+    (blocks_of_resize c.args.block_size c.args.len file.size (stored_in t file.id)) (cond b [] (changes.PutInode (with_length c.args.len c.args.now file) ∷ [])))))
+    (sym (is_less c.args.len file.size (omega (arith, c.if-len-file.true, own))))
+    (room_answer sha256 before objects file c.args.block_size blocks (resized c.args.len) (λ stored. blocks_of_resize c.args.block_size c.args.len file.size stored) numbers stored
+    c.as_slice-new.result.now [] c.place_and_cut.result c.as_slice-new.ensures.value
+    (subst
+    (λ (o : Option Told). OnOk c.place_and_cut.result (IfTold o (λ t. IsWornFor sha256 t [] c.as_slice-new.result.now → ⊥)))
+    c.in_ok-blocks.ensures.keeper_same c.place_and_cut.ensures.room))
+
+pub returns-clause-room : goal.returns-clause-room
+returns-clause-room g c =
+    let file = c.args.file.now in
+    let blocks = c.in_ok-blocks.blocks.items in
+    let before = g.K.Keeper.told c.args.keeper.now in
+    let objects = g.L.Link.told c.args.link.now in
+    let numbers : IfTold before (λ t. numbers_of blocks ≡ blocks_of_resize c.args.block_size c.args.len file.size (stored_in t file.id)) =
+    subst (λ (r : Inode). IfTold before (λ t. numbers_of blocks ≡ blocks_of_resize c.args.block_size c.args.len r.size (stored_in t r.id))) c.file.view_is c.in_ok-blocks.ensures.numbers in
+    let own : c.file.inside.size ≡ file.size = ap (λ (r : Inode). r.size) c.file.view_is in
+    let stored : IfFile before objects file.id file.size c.args.block_size (λ old. AreBlocksOf c.args.block_size (resized c.args.len old) blocks) =
+    subst (λ (r : Inode). IfFile before objects r.id r.size c.args.block_size (λ old. AreBlocksOf c.args.block_size (resized c.args.len old) blocks)) c.file.view_is c.in_ok-blocks.ensures.stored in
+    subst
+    (λ (b : Bool). OnOk c.place_within.result (IfBothTold before objects (λ t o. HaveRoom sha256 t o file c.args.block_size (resized c.args.len)
+    (blocks_of_resize c.args.block_size c.args.len file.size (stored_in t file.id)) (cond b [] (changes.PutInode (with_length c.args.len c.args.now file) ∷ [])))))
+    (sym (is_not_less c.args.len file.size (omega (arith, c.if-len-file.false, own))))
+    (room_answer sha256 before objects file c.args.block_size blocks (resized c.args.len) (λ stored. blocks_of_resize c.args.block_size c.args.len file.size stored) numbers stored
+    c.as_slice-new.result.now (changes.PutInode (with_length c.args.len c.args.now file) ∷ []) c.place_within.result c.as_slice-new.ensures.value
+    (subst
+    (λ (o : Option Told). OnOk c.place_within.result (IfTold o (λ t. IsWornFor sha256 t (changes.PutInode (with_length c.args.len c.args.now file) ∷ []) c.as_slice-new.result.now → ⊥)))
+    c.in_ok-blocks.ensures.keeper_same c.place_within.ensures.room))

@@ -1,5 +1,5 @@
 use Rattle.std.proofs.Common.{◌≡◌, ◌+◌, ◌*◌, ◌<◌, ◌≤◌, ◌∷◌, [], List, ℕ, length, get_or, max, Option, sym, ap, ◌∙◌, subst, arith}
-use Rattle.std.specs.Prelude.{◌==◌, IfErr, IfOk, IsTrue}
+use Rattle.std.specs.Prelude.{◌==◌, IfErr, IfOk, IsTrue, OnOk}
 use Rattle.sha2.specs.Sha256.{sha256}
 use Rattle.block_math.specs.Changes.{written_at}
 use Rattle.core_model.specs.Changes.{blocks_of_write}
@@ -19,11 +19,12 @@ use Rattle.core_model.specs.Safe.{HaveHeld}
 use Rattle.ref_counts.proofs.Told.{IfTold-weaker}
 use Rattle.file_ops.specs.declared.file_fault.FileFault.TheVariants.{Worn}
 use Rattle.file_ops.specs.declared.new_block.NewBlock.{NewBlock}
-use Rattle.file_ops.specs.FileBytes.{IfFile, stored_in}
-use Rattle.file_ops.specs.FileChanges.{AreFew, AreInFile, AreWorn, IsFileAt, IsFileStep, KeepsObjects, with_length}
+use Rattle.file_ops.specs.FileBytes.{IfBothTold, IfFile, stored_in}
+use Rattle.file_ops.specs.FileChanges.{AreFew, AreInFile, AreWorn, HaveRoom, IsFileAt, IsFileStep, KeepsObjects, with_length}
 use Rattle.file_ops.specs.NewBlocks.{AreBlocksOf, numbers_of}
 use Rattle.file_ops.specs.Placed.{ArePrepared, IsWornFor, KnowsBlocks}
 use Rattle.file_ops.proofs.ChangedNumbers.{distinct_of_write}
+use Rattle.file_ops.proofs.Room.{room_answer}
 use Rattle.file_ops.proofs.WrittenFiles.{bytes_answer, changed_answer, grown_answer, length-written, step_answer, worn_answer}
 use Rattle.file_ops.proofs.FewPlaces.{few_answer, few_more, told_few_same, written_few}
 use Rattle.file_ops.proofs.FileSteps.{IfOk-weaker}
@@ -191,3 +192,26 @@ pub returns-in_err-blocks-clause-drawn : goal.returns-in_err-blocks-clause-drawn
 returns-in_err-blocks-clause-drawn g c =
     told_few_same (piece_count c.args.off (length c.args.new.now) c.args.block_size + 1) (g.K.Keeper.told c.args.keeper.now) (g.K.Keeper.told c.written_blocks.new.keeper)
     c.written_blocks.ensures.keeper_same
+
+pub returns-clause-room : goal.returns-clause-room
+returns-clause-room g c =
+    let file = c.args.file.now in
+    let count : ℕ = length c.args.new.now in
+    let blocks = c.in_ok-blocks.blocks.items in
+    let before = g.K.Keeper.told c.args.keeper.now in
+    let objects = g.L.Link.told c.args.link.now in
+    let numbers : IfTold before (λ t. numbers_of blocks ≡ blocks_of_write c.args.block_size c.args.off count file.size (stored_in t file.id)) =
+    subst (λ (r : Inode). IfTold before (λ t. numbers_of blocks ≡ blocks_of_write c.args.block_size c.args.off count r.size (stored_in t r.id))) c.file.view_is c.in_ok-blocks.ensures.numbers in
+    let stored : IfFile before objects file.id file.size c.args.block_size (λ old. AreBlocksOf c.args.block_size (written_at c.args.off c.args.new.now old) blocks) =
+    subst (λ (r : Inode). IfFile before objects r.id r.size c.args.block_size (λ old. AreBlocksOf c.args.block_size (written_at c.args.off c.args.new.now old) blocks)) c.file.view_is c.in_ok-blocks.ensures.stored in
+    let own : c.file.inside.size ≡ file.size = ap (λ (r : Inode). r.size) c.file.view_is in
+    let most : c.max.result ≡ max file.size (c.args.off + count) = c.max.ensures ∙ ap (λ (n : ℕ). max n (c.args.off + count)) own in
+    subst
+    (λ (n : ℕ). OnOk c.place_within.result (IfBothTold before objects (λ t o. HaveRoom sha256 t o file c.args.block_size (written_at c.args.off c.args.new.now)
+    (blocks_of_write c.args.block_size c.args.off count file.size (stored_in t file.id)) (changes.PutInode (with_length n c.args.now file) ∷ []))))
+    most
+    (room_answer sha256 before objects file c.args.block_size blocks (written_at c.args.off c.args.new.now) (λ stored. blocks_of_write c.args.block_size c.args.off count file.size stored) numbers stored
+    c.as_slice.result.now (changes.PutInode (with_length c.max.result c.args.now file) ∷ []) c.place_within.result c.as_slice.ensures.value
+    (subst
+    (λ (o : Option Told). OnOk c.place_within.result (IfTold o (λ t. IsWornFor sha256 t (changes.PutInode (with_length c.max.result c.args.now file) ∷ []) c.as_slice.result.now → ⊥)))
+    c.in_ok-blocks.ensures.keeper_same c.place_within.ensures.room))

@@ -1,13 +1,13 @@
-use Rattle.std.proofs.Common.{◌≡◌, ◌≤◌, ◌∷◌, [], Some, length, count_by, ap, sym, ◌∙◌, arith}
+use Rattle.std.proofs.Common.{◌≡◌, ◌≤◌, ◌+◌, ◌^◌, [], length, count_by, ap, sym, ◌∙◌, arith}
 use Rattle.sha2.specs.Sha256.{sha256}
 use Rattle.ref_counts.proofs.Told.{IfTold-same, IfTold-weaker, IfTold-weaker2}
 use Rattle.s3_rows.specs.Rows.{Parameters}
 use Rattle.file_ops.specs.Resolved.{is_new, resolved}
 use Rattle.std.proofs.lemmas.List.Sums.{count_by-le-length}
-use Rattle.s3_rows.specs.Told.{IfTold}
 use Rattle.file_ops.proofs.FewPlaces.{told_few_drawn}
 use Rattle.file_ops.proofs.Left.{IfSome-there}
 use Rattle.file_ops.proofs.OldObjects.{old_kept}
+use Rattle.file_ops.proofs.Room.{numbers_there}
 use Rattle.file_ops.proofs.placing.prepare_blocks.Goals as goal
 
 pub returns-clause-others : goal.returns-clause-others
@@ -44,3 +44,15 @@ returns-in_err-store_objects-clause-drawn g c =
     (g.K.Keeper.told c.draw_objects.new.keeper) less
     (IfTold-weaker (g.K.Keeper.told c.args.keeper.now) _ _ (λ t row. sym (sym c.in-Some.is ∙ row)) c.in_ok-params.ensures.row)
     (c.in_ok-places.ensures.same ∙ c.in_ok-params.ensures.same) c.in_ok-draw_objects.ensures.drawn
+
+pub returns-clause-room : goal.returns-clause-room
+returns-clause-room g c =
+    IfTold-weaker2 (g.K.Keeper.told c.args.keeper.now) _ _ _
+    (λ t row found.
+    numbers_there sha256 t c.args.blocks.now c.in-Some.params (sym c.in-Some.is ∙ row) c.params-2.inside.next_block c.params-2.inside.next_object
+    (ap (λ (p : Parameters). p.next_block) c.params-2.view_is) (ap (λ (p : Parameters). p.next_object) c.params-2.view_is) c.in-Some-2.places
+    (IfSome-there (λ places. places ≡ resolved sha256 t [] c.params-2.inside.next_block c.params-2.inside.next_object c.args.blocks.now) _ c.in-Some-2.places c.in-Some-2.is found)
+    (IfSome-there (λ places. (c.params-2.inside.next_block + count_by is_new places ≤ 2 ^ 62) × (c.params-2.inside.next_object + count_by is_new places ≤ 2 ^ 62)) _ c.in-Some-2.places c.in-Some-2.is
+    c.in_ok-places.ensures.room))
+    c.in_ok-params.ensures.row
+    (IfTold-same _ _ _ c.in_ok-params.ensures.same c.in_ok-places.ensures.places)

@@ -19,7 +19,7 @@ use Rattle.core_model.specs.Changes.{blocks_of_resize}
 use Rattle.byte_steps.specs.Changed.{stored_length}
 use Rattle.file_ops.specs.declared.file_fault.FileFault.{FileFault}
 use Rattle.file_ops.specs.FileBytes.{IfBothTold, stored_in}
-use Rattle.file_ops.specs.FileChanges.{AreWorn, GetsBytes, HoldsBytes, IsFileAt, IsFileStep, with_length}
+use Rattle.file_ops.specs.FileChanges.{AreWorn, GetsBytes, HaveRoom, HoldsBytes, IsFileAt, IsFileStep, with_length}
 use Rattle.file_ops.specs.FileFaults.{IsLossAmong}
 use Rattle.tree_rows.specs.Attrs.{attr_of_row}
 use Rattle.volume_core.specs.declared.refusal.Refusal.TheVariants.{Refused}
@@ -30,6 +30,7 @@ use Rattle.volume_core.specs.Rows.{IsCheckedRow, file_checks}
 use Rattle.volume_core.proofs.FileCalls.{drawn_from, drawn_ordered, few_after, few_more, few_ordered, only_drawn, still_tells}
 use Rattle.volume_core.proofs.FileChecks.{number, truncate_absent, truncate_passes, truncate_regular, truncate_there, truncate_too_long}
 use Rattle.volume_core.proofs.FileOutcomes.{fault_outcome, row_refusal, size_known}
+use Rattle.volume_core.proofs.FileRoom.{truncate_room}
 use Rattle.volume_core.proofs.FilesWritten.{truncate_loss, truncate_worn, truncated_done}
 use Rattle.volume_core.proofs.LawsUsed.{ChangeLaws, DrawnLaws, HeldLaws}
 use Rattle.volume_core.proofs.Looking.{file_there}
@@ -148,5 +149,8 @@ returns-clause-outcome g c whole pass s =
     pass c.args.inode len own stepped held gets bytes_held (truncate_passes told before whole s pass c.args.inode len r c.in_ok-row.ensures.row c.in_ok-check_size.ensures)
     (subst (λ x. AreFewTold x (told after.keeper)) same_k (few_after k m (told after.keeper) batch 2 (omega arith) c.in_ok-commit.ensures.ok
     (few_ordered k m batch 2 (drawn_ordered told before after sha256 objects later whole s (told c.file_row.new.keeper) c.in_ok-row.ensures.same c.in_ok-block_size.ensures.ranges k m same_k drawn c.in_ok-batch.ensures.prepared) c.in_ok-batch.ensures.few)))
+    (truncate_room told before sha256 objects whole s r n pass c.args.now size there c.args.inode len own
+    (subst (λ x. IfBothTold x objects (λ t o. HaveRoom sha256 t o r n (resized len) (blocks_of_resize n len r.size (stored_in t r.id)) (if nat_lt len r.size then [] else changes.PutInode (with_length len c.args.now r) ∷ []))) same_k
+    c.in_ok-batch.ensures.room))
     c.attr_of.result (subst (λ (x : Inode). x.refcount < 2 ^ 62) c.row.view_is c.row.invariant.refcount)
     (c.attr_of.ensures.attr ∙ ap (λ (x : Inode). attr_of_row (with_length len c.args.now x)) c.row.view_is)

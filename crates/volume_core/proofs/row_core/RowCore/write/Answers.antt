@@ -17,7 +17,7 @@ use Rattle.core_model.specs.Changes.{blocks_of_write, needed_by_write}
 use Rattle.byte_steps.specs.Changed.{stored_length}
 use Rattle.file_ops.specs.declared.file_fault.FileFault.{FileFault}
 use Rattle.file_ops.specs.FileBytes.{IfBothTold, stored_in}
-use Rattle.file_ops.specs.FileChanges.{AreFew, AreWorn, GetsBytes, HoldsBytes, IsFileAt, IsFileStep, with_length}
+use Rattle.file_ops.specs.FileChanges.{AreFew, AreWorn, GetsBytes, HaveRoom, HoldsBytes, IsFileAt, IsFileStep, with_length}
 use Rattle.file_ops.specs.FileFaults.{IsLossAmong}
 use Rattle.op_checks.specs.Rows.{open_row_check}
 use Rattle.ref_counts.specs.Handles.{inode_open}
@@ -29,6 +29,7 @@ use Rattle.volume_core.specs.Rows.{IsCheckedRow, row_of}
 use Rattle.volume_core.proofs.FileCalls.{drawn_from, few_after, few_more, few_write, only_drawn, still_tells}
 use Rattle.volume_core.proofs.FileChecks.{file_open, open_regular, write_closed, write_locked, write_passes, write_too_far}
 use Rattle.volume_core.proofs.FileOutcomes.{fault_outcome, row_refusal, size_known, size_refusal}
+use Rattle.volume_core.proofs.FileRoom.{write_room}
 use Rattle.volume_core.proofs.FilesWritten.{nothing_written, write_loss, write_worn, written_done}
 use Rattle.volume_core.proofs.LawsUsed.{ChangeLaws, DrawnLaws, HeldLaws}
 use Rattle.volume_core.proofs.Looking.{IsOpenFile}
@@ -191,4 +192,9 @@ returns-clause-outcome g c whole s =
     (write_passes told before whole s c.args.pass c.args.handle off bytes r c.in_ok-row.ensures.row c.in_ok-check_unlocked.ensures c.in_ok-check_write_end.ensures)
     (subst (λ x. AreFewTold x (told after.keeper)) same_k (few_after k m (told after.keeper) batch (piece_count off (length bytes) n + 1) (few_write (length bytes) off n c.in_ok-block_size.ensures.least c.requires.short) c.in_ok-commit.ensures.ok
     (subst (λ (bs : List ℕ). IfTold k (λ t. IfTold m (λ u. AreFew (piece_count off (length bs) n + 1) t (tables_after batch u)))) c.as_slice.ensures c.in_ok-batch.ensures.few)))
+    (write_room told before sha256 objects whole s r n c.args.pass c.args.now size o.row c.args.handle off bytes o
+    (subst (λ x. IfBothTold x objects (λ t o. HaveRoom sha256 t o r n (written_at off bytes) (blocks_of_write n off (length bytes) r.size (stored_in t r.id))
+    (changes.PutInode (with_length (max r.size (off + length bytes)) c.args.now r) ∷ []))) same_k
+    (subst (λ (bs : List ℕ). IfBothTold k objects (λ t o. HaveRoom sha256 t o r n (written_at off bs) (blocks_of_write n off (length bs) r.size (stored_in t r.id))
+    (changes.PutInode (with_length (max r.size (off + length bs)) c.args.now r) ∷ []))) c.as_slice.ensures c.in_ok-batch.ensures.room)))
     c.len.result c.len.ensures
