@@ -1,16 +1,19 @@
--- The core of a replay that was just opened.
+-- The file system of a replay that was just made, and its core that was just opened.
 use Rattle.std.proofs.Common.{◌≡◌, ◌<◌, ◌≤◌, ℕ, [], ◌∷◌, length, Some, refl, sym, ap, ◌∙◌, subst, arith}
-use Rattle.std.specs.Prelude.{IsTrue, nat_le}
+use Rattle.std.specs.Prelude.{IsTrue, nat_le, is_some, ◌||◌, true, false}
 use Rattle.std.specs.List.{list_all}
+use Rattle.std.specs.List.Sorted.{IsStrictlySortedBy}
 use Rattle.sha2.specs.Sha256.{sha256}
 use Rattle.plain_tree.specs.Tree.{made_tree}
 use Rattle.s3_rows.specs.declared.change.Change.TheVariants as changes
 use Rattle.s3_rows.specs.Rows.{Parameters}
 use Rattle.s3_rows.specs.Made.{made_tables, made_parameters}
 use Rattle.s3_rows.specs.Stores.{AreHeld}
-use Rattle.s3_rows.specs.Tables.{Tables}
-use Rattle.s3_rows.specs.Told.{Told, with_batch}
+use Rattle.s3_rows.specs.Tables.{Tables, IsOrdered, no_tables}
+use Rattle.s3_rows.specs.Told.{Told, one_more, with_batch}
 use Rattle.s3_devices.specs.Keys.{objects_in}
+use Rattle.s3_devices.specs.Objects.{Objects, AreOrdered}
+use Rattle.mkfs_ops.specs.Making.{has_own_key, made_with}
 use Rattle.tree_rows.specs.Contents.{Contents, HaveBytes, tree_of}
 use Rattle.core_model.specs.Bytes.{HasBytes, no_overlay}
 use Rattle.core_model.specs.Safe.{HaveHeld}
@@ -67,3 +70,29 @@ module _ (s : Served) (keeper : Told) (block_size slots : ℕ) (made : keeper.ta
     };
     backed = has_bytes law whole;
   }
+
+-- ---- making it
+
+nothing_is_ordered : IsOrdered no_tables
+nothing_is_ordered = record { inodes = refl; names = refl; contents = refl; inode_blocks = refl; blocks = refl; objects = refl; targets = refl; attrs = refl; slots = refl }
+
+-- what a keeper of no tables tells once a file system was made in it
+pub made_rows : (before after : Told) (block_size slots : ℕ) → before ≡ record { tables = no_tables; commits = 0 }
+    → (IsOrdered before.tables → told_by after ≡ Some (record { tables = made_with (record { block_size = block_size; slots = slots; now = 0 }); commits = one_more before.commits }))
+    → after.tables ≡ made_tables block_size slots 0
+made_rows before after block_size slots empty made =
+    let ordered : IsOrdered before.tables = subst (λ (s : Told). IsOrdered s.tables) (sym empty) nothing_is_ordered in
+    let own : Some after ≡ Some (record { tables = made_tables block_size slots 0; commits = one_more before.commits }) = made ordered in
+    let now : after ≡ record { tables = made_tables block_size slots 0; commits = one_more before.commits } = cc own in
+    ap (λ (s : Told). s.tables) now
+
+-- nothing is there before
+pub nothing_exists : (rows : Told) (store : Objects) → rows ≡ record { tables = no_tables; commits = 0 } → store ≡ []
+    → (AreOrdered store → IsTrue (is_some rows.tables.params || has_own_key store)) → ⊥
+unfolding IsStrictlySortedBy
+nothing_exists rows store no_rows no_objects exists =
+    let ordered : AreOrdered store = subst (λ (o : Objects). AreOrdered o) (sym no_objects) tt in
+    let any : (is_some rows.tables.params || has_own_key store) ≡ false =
+    ap (λ (s : Told). is_some s.tables.params || has_own_key store) no_rows ∙ ap has_own_key no_objects in
+    let clash : true ≡ false = sym (exists ordered) ∙ any in
+    cc clash

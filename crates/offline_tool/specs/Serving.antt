@@ -1,11 +1,14 @@
 -- The core of a replay, with its store.
-use Rattle.std.specs.Prelude.{ℕ, ◌+◌, ◌*◌, ◌<◌, ◌≤◌, length, Option, Some}
+use Rattle.std.specs.Prelude.{ℕ, ◌+◌, ◌*◌, ◌<◌, ◌≤◌, [], length, Option, Some}
 use Rattle.sha2.specs.Sha256.{sha256}
 use Rattle.plain_tree.specs.Calls.{Answered, tree_after_reply}
 use Rattle.plain_tree.specs.Tree.{Tree}
 use Rattle.s3_rows.specs.Stores.{AreHeld}
 use Rattle.s3_rows.specs.Told.{Told}
-use Rattle.s3_devices.specs.Keys.{objects_in}
+use Rattle.s3_devices.specs.Keys.{generation_key, objects_in}
+use Rattle.s3_devices.specs.Objects.{Objects, with_object}
+use Rattle.keeper_dump.specs.Dump.{dump_of}
+use Rattle.mkfs_ops.specs.Making.{first_tables}
 use Rattle.tree_rows.specs.Contents.{Contents}
 use Rattle.block_steps.specs.Owed.{next_block_of}
 use Rattle.core_model.specs.Occurring.{KnowsAll, blocks_in}
@@ -15,6 +18,11 @@ use Rattle.volume_core.specs.Backed.{IsBacked}
 use Rattle.volume_core.specs.Standing.{StandsFor}
 use Rattle.offline_tool.specs.declared.served.Served.{Served}
 use Rattle.offline_tool.specs.Runs.{IsLikeReply, IsSameReply}
+
+-- the store of a file system that was just made at time 0: its first generation, and no object
+abbrev pub made_store : ℕ → ℕ → Objects
+made_store block_size slots =
+    with_object (generation_key 1) (dump_of (first_tables (record { block_size = block_size; slots = slots; now = 0 }))) []
 
 -- what the keeper tells
 abbrev pub told_by : Told → Option Told

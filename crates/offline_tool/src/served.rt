@@ -7,17 +7,17 @@ ghost use Rattle.op_frames.specs.Replay.{input_limit};
 ghost use Rattle.plain_tree.specs.Tree.{Tree, made_tree};
 ghost use Rattle.s3_rows.specs.Made.{made_tables};
 ghost use Rattle.volume_core.specs.Answers.{answered};
-ghost use Rattle.offline_tool.specs.Serving.{IsBegun, IsServed, Serves};
+ghost use Rattle.offline_tool.specs.Serving.{IsBegun, IsServed, Serves, made_store};
 
 use byte_steps::operations_on_names_keep_bytes;
 use core_model::tables_have_the_bytes_of_their_tree;
+use mkfs_ops::{MakeFault, Settings, make};
 use op_frames::{Op, Reply};
-use s3_rows::{Keeper, made_batch};
 use std::alloc::{AllocError, Global};
 use steady_keeper::SteadyKeeper;
 use steady_link::SteadyLink;
 use tree_rows::made_tables_are_the_made_tree;
-use volume_core::{RowCore, made_tables_are_ready};
+use volume_core::{OpenFault, RowCore, made_tables_are_ready};
 
 /// A core over a keeper in memory, with an object store in memory. Neither ever fails.
 #[derive(Drop)]
@@ -26,40 +26,57 @@ pub struct Served {
     link: SteadyLink,
 }
 
-/// A keeper of the tables of a file system that was just made, at time 0.
-fn made_keeper(alloc: Global, block_size: u32, slots: u32) -> Result<SteadyKeeper, AllocError>
+/// A keeper and an object store in memory, which never fail.
+#[derive(Drop)]
+struct Devices {
+    keeper: SteadyKeeper,
+    link: SteadyLink,
+}
+
+/// A file system that was just made, at time 0: its tables, and its first generation in the store. Only a lack of memory refuses it.
+fn made_devices(alloc: Global, block_size: u32, slots: u32) -> Result<Devices, AllocError>
     requires least { 4096 ≤ block_size }
     requires greatest { block_size ≤ 10485760 }
     requires slots { slots ≤ 65536 }
     requires disk { slots * block_size ≤ 2 ^ 32 }
-    ensures { IfOk result (λ s. s.tables ≡ made_tables block_size slots 0) }
+    ensures tables { IfOk result (λ d. d.keeper.tables ≡ made_tables block_size slots 0) }
+    ensures store { IfOk result (λ d. d.link ≡ made_store block_size slots) }
 {
     let mut keeper = SteadyKeeper::new(alloc);
-    let batch = made_batch(alloc, block_size, slots, 0)?;
-    match keeper.commit(&batch) {
-        Ok(()) => Ok(keeper),
-        Err(_) => Err(AllocError),
+    let mut link = SteadyLink::new(alloc);
+    let settings = Settings {
+        block_size,
+        slots,
+        now: 0,
+    };
+    match make(alloc, &mut keeper, &mut link, &settings) {
+        Ok(()) => Ok(Devices { keeper, link }),
+        Err(MakeFault::Memory) => Err(AllocError),
+        Err(MakeFault::Exists) => unreachable!(),
+        Err(MakeFault::Keeper | MakeFault::Link) => unreachable!(),
     }
 }
 
-/// Makes a file system with blocks of so many bytes and so many slots at time 0, over an empty store, and opens it.
+/// Makes a file system with blocks of so many bytes and so many slots at time 0, over no tables and an empty store, and opens it.
+/// Only a lack of memory refuses it.
 pub fn open_made(alloc: Global, block_size: u32, slots: u32) -> Result<Served, AllocError>
     requires least { 4096 ≤ block_size }
     requires greatest { block_size ≤ 10485760 }
     requires slots { slots ≤ 65536 }
     requires disk { slots * block_size ≤ 2 ^ 32 }
-    ensures { IfOk result (λ served. IsBegun served (made_tree block_size 0)) }
+    ensures begun { IfOk result (λ served. IsBegun served (made_tree block_size 0)) }
+    ensures store { IfOk result (λ served. served.link ≡ made_store block_size slots) }
 {
     made_tables_are_ready();
     made_tables_are_the_made_tree();
     tables_have_the_bytes_of_their_tree();
-    let keeper = made_keeper(alloc, block_size, slots)?;
+    let Devices { keeper, link } = made_devices(alloc, block_size, slots)?;
     match RowCore::open(alloc, keeper) {
-        Ok(core) => Ok(Served {
-            core,
-            link: SteadyLink::new(alloc),
-        }),
-        Err(_) => Err(AllocError),
+        Ok(core) => Ok(Served { core, link }),
+        Err((_, OpenFault::Memory)) => Err(AllocError),
+        Err((_, OpenFault::NoFileSystem | OpenFault::Unclean | OpenFault::Keeper)) => {
+            unreachable!()
+        }
     }
 }
 

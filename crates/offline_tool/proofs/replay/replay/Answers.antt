@@ -18,7 +18,7 @@ loop-behind-init g c = record {
   source_later = omega arith;
   sink_later = omega arith;
   verdict = λ s told. (s, told, refl);
-  output = λ s before told is. (s, [], told, nothing_more before _ is, begins c.args.limits.now.block_size s.left _ c.in-Ok.ensures);
+  output = λ s before told is. (s, [], told, nothing_more before _ is, begins c.args.limits.now.block_size s.left _ c.in-Ok.ensures.begun);
 }
 
 pub loop-behind-preserved : goal.loop-behind-preserved
