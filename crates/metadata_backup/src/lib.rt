@@ -13,6 +13,7 @@ mod survey;
 
 pub use generations::{newest, rotate};
 pub use laws::{keys_read_by_hand, numbers_have_one_key, rotations_take_old_generations};
+pub use numbers::{generation_of, object_of};
 pub use restore_fault::RestoreFault;
 pub use restoring::{replace_tables, restore};
 pub use stored::{Dump, DumpReceipt, store_generation, take_dump};

@@ -49,7 +49,7 @@ fn number_of(digits: &[u8]) -> Option<u64>
 
 /// The generation of the metadata that a key names.
 #[tactic(auto, unfolding(crate::specs::Numbers::generation_of))]
-pub(crate) fn generation_of(key: &[u8]) -> Option<u64>
+pub fn generation_of(key: &[u8]) -> Option<u64>
     ensures number { result ≡ numbers.generation_of key.now }
     ensures id { IfSome result IsId }
 {
@@ -62,7 +62,7 @@ pub(crate) fn generation_of(key: &[u8]) -> Option<u64>
 
 /// The data object that a key names.
 #[tactic(auto, unfolding(crate::specs::Numbers::object_of))]
-pub(crate) fn object_of(key: &[u8]) -> Option<u64>
+pub fn object_of(key: &[u8]) -> Option<u64>
     ensures number { result ≡ numbers.object_of key.now }
     ensures id { IfSome result IsId }
 {

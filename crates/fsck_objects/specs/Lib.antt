@@ -1,0 +1,5 @@
+pub mod Listed
+pub mod Missing
+pub mod Numbers
+pub mod Store
+pub mod Worked
