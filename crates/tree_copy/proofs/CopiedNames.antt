@@ -12,7 +12,7 @@ use Rattle.op_frames.specs.declared.operation.Op.TheVariants as ops
 use Rattle.s3_base.specs.Numbers.{root}
 use Rattle.s3_base.specs.declared.node_kind.Kind.TheVariants as kinds
 use Rattle.plain_tree.specs.Below.{at_and_below}
-use Rattle.plain_tree.specs.Checks.{first_failure}
+use Rattle.plain_tree.specs.Checks.{directory_check, first_failure, free_check, node_check}
 use Rattle.plain_tree.specs.Entries.{add_entry, entry_at, is_folder}
 use Rattle.plain_tree.specs.Operations.{checks, effect}
 use Rattle.plain_tree.specs.Tree.{Node, Tree, node_at}
@@ -31,7 +31,7 @@ use Rattle.row_lemmas.proofs.Keyed.Put.{list_all-put, row_at-put_other, row_at-p
 use Rattle.row_lemmas.proofs.Tables.{tables_after-tables_after}
 use Rattle.tree_laws.proofs.Node.Kind.{entry_in, free_is, holds_directory, node_there}
 use Rattle.tree_laws.proofs.Node.Reading.{lookup_below_next}
-use Rattle.tree_laws.proofs.Walk.Passed.{CanCopy, can_copy}
+use Rattle.tree_laws.proofs.Walk.Passed.{can_copy}
 use Rattle.tree_laws.proofs.WellFormed.{IsWellFormed-effect}
 use Rattle.tree_rows.specs.Shapes.{NodeShape, node_of_row, shape_of_node, Represents}
 use Rattle.tree_rows.proofs.Listed.{is_entry}
@@ -48,7 +48,7 @@ use Rattle.row_steps.proofs.Living.{FindsChildren, FindsChildren-IsValid, FindsC
 use Rattle.row_steps.proofs.Owed.Ends.{HasPremises-Owes, Owes-IsValid}
 use Rattle.row_steps.proofs.Owed.Raised.{IsRaise}
 use Rattle.row_steps.proofs.Place.{is_entry_none, kind_there}
-use Rattle.tree_copy.specs.CopiedRows.{AreVisitsOf, Visit, all_seen, copied_row, entry_copied, is_visited, names_copied, names_fit, node_copied, node_fits, source_copied, source_fits, visits_copied, visits_fit, with_use}
+use Rattle.tree_copy.specs.CopiedRows.{AreVisits, AreVisitsOf, Visit, all_seen, copied_row, entry_copied, is_visited, names_copied, names_fit, node_copied, node_fits, source_copied, source_fits, visits_copied, visits_fit, with_use}
 use Rattle.tree_copy.specs.CopySteps.{AreNamesOf}
 use Rattle.tree_copy.specs.PartialCopies.{begun, without_entries}
 use Rattle.tree_copy.proofs.CopiedAttrs.{attributes_found}
@@ -94,13 +94,21 @@ module _ (told t : Tables) (whole : Tree) (d : Inode) (more : Raised) (name : Li
 
 -- ---- the source, and all below
 
+-- a directory may have a new entry under the name
+pub record TakesCopy (whole : Tree) (parent : ℕ) (name : List ℕ) : Type 0 where
+  pub there : node_check (node_at whole parent) ≡ None
+  pub folder : directory_check (node_at whole parent) ≡ None
+  pub free : free_check (node_at whole parent) name ≡ None
+
+pub takes_copy : (whole : Tree) (pass source parent : ℕ) (name : List ℕ) → first_failure (checks whole pass (ops.CopyTree source parent name)) ≡ None → TakesCopy whole parent name
+takes_copy whole pass source parent name passes =
+    let can = can_copy whole pass source parent name passes in
+    record { there = can.there; folder = can.folder; free = can.free }
+
 -- valid tables of a well-formed tree of which a directory may be copied
 module _ (told : Tables) (whole : Tree) (v : IsValid told) (unique : HasUniqueNames told) (same : Represents told whole) (well : IsWellFormed whole)
-    (pass source parent now : ℕ) (name : List ℕ) (passes : first_failure (checks whole pass (ops.CopyTree source parent name)) ≡ None)
+    (source parent now : ℕ) (name : List ℕ) (can : TakesCopy whole parent name)
     (directory top : Inode) (found : inode_at told parent ≡ Some directory) (top_found : inode_at told source ≡ Some top) where
-  can : CanCopy whole source parent name
-  can = can_copy whole pass source parent name passes
-
   owes : Owes told v.params [] []
   owes = Owes-IsValid told v.params v v.is_made
 
@@ -228,83 +236,83 @@ module _ (told : Tables) (whole : Tree) (v : IsValid told) (unique : HasUniqueNa
 
   -- ---- all of it
 
+  abbrev pub names_after : List Visit → Tables
+  names_after visits = tables_after (names_copied told whole.next_inode now top directory name visits) told
+
+  -- with the visits so far
+  pub way_so_far : (visits : List Visit) → AreVisits told (top.id ∷ []) [] visits → IsTrue (names_fit told whole.next_inode now top directory name visits)
+      → IsOnTheWay told whole parent now name (all_seen (top.id ∷ []) visits) visits (tables_after (names_copied told whole.next_inode now top directory name visits) told)
+  way_so_far visits each fits =
+      let first : List Change = source_copied told whole.next_inode now top directory name in
+      let rest : List Change = visits_copied told whole.next_inode now (top.id ∷ []) visits (tables_after first told) in
+      let fit = and_parts (source_fits told whole.next_inode now top name) (visits_fit told whole.next_inode now (top.id ∷ []) visits (tables_after first told)) fits in
+      subst (λ (w : Tables). IsOnTheWay told whole parent now name (all_seen (top.id ∷ []) visits) visits w) (tables_after-tables_after first rest told)
+      (visits_come told whole v.params owes same well parent now name fits_parent above visits (tables_after first told) (top.id ∷ []) [] (source_step fit.0) each fit.1)
+
   module _ (visits : List Visit) (are : AreVisitsOf told (at_and_below whole source) top.id visits)
       (fits : IsTrue (names_fit told whole.next_inode now top directory name visits)) where
-    abbrev first : List Change
-    first = source_copied told whole.next_inode now top directory name
-
-    abbrev rest : List Change
-    rest = visits_copied told whole.next_inode now (top.id ∷ []) visits (tables_after first told)
-
-    abbrev pub names_after : Tables
-    names_after = tables_after (names_copied told whole.next_inode now top directory name visits) told
-
-    fit : IsTrue (source_fits told whole.next_inode now top name) × IsTrue (visits_fit told whole.next_inode now (top.id ∷ []) visits (tables_after first told))
-    fit = and_parts (source_fits told whole.next_inode now top name) (visits_fit told whole.next_inode now (top.id ∷ []) visits (tables_after first told)) fits
-
-    pub way : IsOnTheWay told whole parent now name (at_and_below whole source) visits names_after
+    pub way : IsOnTheWay told whole parent now name (at_and_below whole source) visits (names_after visits)
     way =
-        subst (λ (seen : List ℕ). IsOnTheWay told whole parent now name seen visits names_after) are.order_is
-        (subst (λ (w : Tables). IsOnTheWay told whole parent now name (all_seen (top.id ∷ []) visits) visits w) (tables_after-tables_after first rest told)
-        (visits_come told whole v.params owes same well parent now name fits_parent above visits (tables_after first told) (top.id ∷ []) [] (source_step fit.0) are.each fit.1))
+        subst (λ (seen : List ℕ). IsOnTheWay told whole parent now name seen visits (names_after visits)) are.order_is (way_so_far visits are.each fits)
 
-    abbrev goal : Tree
-    goal = effect whole pass (ops.CopyTree source parent name) now
+    module _ (pass : ℕ) (passes : first_failure (checks whole pass (ops.CopyTree source parent name)) ≡ None) where
+      abbrev goal : Tree
+      goal = effect whole pass (ops.CopyTree source parent name) now
 
-    pub well_goal : IsWellFormed goal
-    well_goal = IsWellFormed-effect whole pass now (ops.CopyTree source parent name) well passes
+      pub well_goal : IsWellFormed goal
+      well_goal = IsWellFormed-effect whole pass now (ops.CopyTree source parent name) well passes
 
-    -- an entry of the tree is listed in the tables
-    listed : (x y : ℕ) (other : List ℕ) → entry_at whole x other ≡ Some y → IsTrue (has_inode is_directory told x) × IsTrue (is_some (row_at by_entry_name other (named_entries told x)))
-    listed x y other is = by_folder (is_folder (node_at whole x)) refl
-      where
-        no_entry : (found : Option Node) → is_folder found ≡ false → entry_in other found ≡ Some y → ⊥
-        no_entry None file is = cc is
-        no_entry (Some n) file is = both_ways (is_folder (Some n)) file (holds_directory n.content other y is)
+      -- an entry of the tree is listed in the tables
+      listed : (x y : ℕ) (other : List ℕ) → entry_at whole x other ≡ Some y → IsTrue (has_inode is_directory told x) × IsTrue (is_some (row_at by_entry_name other (named_entries told x)))
+      listed x y other is = by_folder (is_folder (node_at whole x)) refl
+        where
+          no_entry : (found : Option Node) → is_folder found ≡ false → entry_in other found ≡ Some y → ⊥
+          no_entry None file is = cc is
+          no_entry (Some n) file is = both_ways (is_folder (Some n)) file (holds_directory n.content other y is)
 
-        some_mapped : (row : Option NamedEntry) → option_map (λ (e : NamedEntry). e.row.inode) row ≡ Some y → IsTrue (is_some row)
-        some_mapped None none = absurd (cc none)
-        some_mapped (Some e) some = refl
+          some_mapped : (row : Option NamedEntry) → option_map (λ (e : NamedEntry). e.row.inode) row ≡ Some y → IsTrue (is_some row)
+          some_mapped None none = absurd (cc none)
+          some_mapped (Some e) some = refl
 
-        by_folder : (b : Bool) → is_folder (node_at whole x) ≡ b → IsTrue (has_inode is_directory told x) × IsTrue (is_some (row_at by_entry_name other (named_entries told x)))
-        by_folder false file = absurd (no_entry (node_at whole x) file is)
-        by_folder true folder =
-            let there : IsTrue (has_inode is_directory told x) = sym (folder_is told whole same x) ∙ folder in
-            let d = row_of_folder told x there in (
-              there,
-              some_mapped (row_at by_entry_name other (named_entries told x))
-                  (ap (λ k. option_map (λ (e : NamedEntry). e.row.inode) (row_at by_entry_name other (named_entries told k))) (number_of told x d.0 d.1)
-                  ∙ sym (lookup_made (λ (e : NamedEntry). e.name) (λ (e : NamedEntry). e.row.inode) (is_at (slice_cmp nat_cmp other)) (named_entries told d.0.id))
-                  ∙ sym (ap (λ k. entry_of_shape (content_of_kind told d.0 k) other) d.2)
-                  ∙ sym (ap (λ (row : Option Inode). option_and_then (λ (n : NodeShape). entry_of_shape n.content other) (option_map (node_of_row told) row)) d.1)
-                  ∙ sym (entry_there told whole same x other) ∙ is),
-            )
+          by_folder : (b : Bool) → is_folder (node_at whole x) ≡ b → IsTrue (has_inode is_directory told x) × IsTrue (is_some (row_at by_entry_name other (named_entries told x)))
+          by_folder false file = absurd (no_entry (node_at whole x) file is)
+          by_folder true folder =
+              let there : IsTrue (has_inode is_directory told x) = sym (folder_is told whole same x) ∙ folder in
+              let d = row_of_folder told x there in (
+                there,
+                some_mapped (row_at by_entry_name other (named_entries told x))
+                    (ap (λ k. option_map (λ (e : NamedEntry). e.row.inode) (row_at by_entry_name other (named_entries told k))) (number_of told x d.0 d.1)
+                    ∙ sym (lookup_made (λ (e : NamedEntry). e.name) (λ (e : NamedEntry). e.row.inode) (is_at (slice_cmp nat_cmp other)) (named_entries told d.0.id))
+                    ∙ sym (ap (λ k. entry_of_shape (content_of_kind told d.0 k) other) d.2)
+                    ∙ sym (ap (λ (row : Option Inode). option_and_then (λ (n : NodeShape). entry_of_shape n.content other) (option_map (node_of_row told) row)) d.1)
+                    ∙ sym (entry_there told whole same x other) ∙ is),
+              )
 
-    pub tree_is : way.tree ≡ goal
-    tree_is =
-        whole_copy whole way.tree source parent now name (is_visited visits) fits_parent way.partial well.nodes well.names well_goal.nodes
-        (λ x y other among is.
-        let there = listed x y other is in
-        are.complete x other among there.0 there.1)
+      pub tree_is : way.tree ≡ goal
+      tree_is =
+          whole_copy whole way.tree source parent now name (is_visited visits) fits_parent way.partial well.nodes well.names well_goal.nodes
+          (λ x y other among is.
+          let there = listed x y other is in
+          are.complete x other among there.0 there.1)
 
-    pub Stands-names : Stands told names_after goal []
-    Stands-names = subst (λ (t : Tree). Stands told names_after t []) tree_is way.stands
+      pub Stands-names : Stands told (names_after visits) goal []
+      Stands-names = subst (λ (t : Tree). Stands told (names_after visits) t []) tree_is way.stands
 
-    pub valid_names : IsValid names_after
-    valid_names =
-        IsValid_from_tree names_after goal (HasPremises-Owes names_after way.stands.p way.stands.owes)
-        (subst (λ (t : Tree). Represents names_after t) tree_is way.stands.same) well_goal
+      pub valid_names : IsValid (names_after visits)
+      valid_names =
+          IsValid_from_tree (names_after visits) goal (HasPremises-Owes (names_after visits) way.stands.p way.stands.owes)
+          (subst (λ (t : Tree). Represents (names_after visits) t) tree_is way.stands.same) well_goal
 
-    pub AreNamesOf-names : AreNamesOf told names_after goal
-    AreNamesOf-names = record {
-      valid = valid_names;
-      represents = subst (λ (t : Tree). Represents names_after t) tree_is way.stands.same;
-      unique = way.stands.unique;
-      params = way.stands.rest.params;
-      next_inode = way.stands.rest.next_inode;
-      next_name = way.stands.rest.next_name;
-      inode_blocks = way.stands.rest.inode_blocks;
-      blocks = way.stands.rest.blocks;
-      objects = way.stands.rest.objects;
-      slots = way.stands.rest.slots;
-    }
+      pub AreNamesOf-names : AreNamesOf told (names_after visits) goal
+      AreNamesOf-names = record {
+        valid = valid_names;
+        represents = subst (λ (t : Tree). Represents (names_after visits) t) tree_is way.stands.same;
+        unique = way.stands.unique;
+        params = way.stands.rest.params;
+        next_inode = way.stands.rest.next_inode;
+        next_name = way.stands.rest.next_name;
+        inode_blocks = way.stands.rest.inode_blocks;
+        blocks = way.stands.rest.blocks;
+        objects = way.stands.rest.objects;
+        slots = way.stands.rest.slots;
+      }

@@ -36,7 +36,7 @@ use Rattle.tree_copy.specs.CopiedPlaces.{files_copied, files_fit, moved_place}
 use Rattle.tree_copy.specs.CopiedRows.{AreVisitsOf, Visit, all_seen, names_copied, names_fit, seen_after}
 use Rattle.tree_copy.specs.CopySteps.{AreNamesOf, IsCopyStep, inodes_seen, tree_copied, uncounted}
 use Rattle.tree_copy.specs.PartialCopies.{HasCopy, IsContentOf, begun}
-use Rattle.tree_copy.proofs.CopiedNames.{AreNamesOf-names, tree_is, way}
+use Rattle.tree_copy.proofs.CopiedNames.{takes_copy, AreNamesOf-names, tree_is, way}
 use Rattle.tree_copy.proofs.CopiedPlaces.{FileRows, HasFiles, IsPlacing, NoneFrom, file_rows, files_alike, files_placed, place_found, row_in, spot_key}
 use Rattle.tree_copy.proofs.Visits.{IsOnTheWay, node_of_found, row_of_node}
 
@@ -152,10 +152,10 @@ module _ (told : Tables) (whole : Tree) (v : IsValid told) (unique : HasUniqueNa
   number x = copy_number whole.next_inode order x
 
   names : AreNamesOf told u goal
-  names = AreNamesOf-names told whole v unique same well pass source parent now name passes directory top found top_found visits are names_fits
+  names = AreNamesOf-names told whole v unique same well source parent now name (takes_copy whole pass source parent name passes) directory top found top_found visits are names_fits pass passes
 
   walk : IsOnTheWay told whole parent now name order visits u
-  walk = way told whole v unique same well pass source parent now name passes directory top found top_found visits are names_fits
+  walk = way told whole v unique same well source parent now name (takes_copy whole pass source parent name passes) directory top found top_found visits are names_fits
 
   abbrev p : Parameters
   p = names.valid.params
@@ -310,7 +310,7 @@ module _ (told : Tables) (whole : Tree) (v : IsValid told) (unique : HasUniqueNa
           let after_is : next_inode_of u ≡ goal.next_inode = ap (λ (x : TreeShape). x.next_inode) names.represents in
           let told_is : next_inode_of told ≡ whole.next_inode = ap (λ (x : TreeShape). x.next_inode) same in
           let tree_next : goal.next_inode ≡ whole.next_inode + length order =
-          ap (λ (t : Tree). t.next_inode) (sym (tree_is told whole v unique same well pass source parent now name passes directory top found top_found visits are names_fits))
+          ap (λ (t : Tree). t.next_inode) (sym (tree_is told whole v unique same well source parent now name (takes_copy whole pass source parent name passes) directory top found top_found visits are names_fits pass passes))
           ∙ walk.partial.next_inode in
           after_is ∙ tree_next ∙ ap (λ n. n + length order) (sym told_is);
       next_name = names.next_name;

@@ -7,6 +7,8 @@ pub mod CopiedTrees
 pub mod CopyCome
 pub mod FirstVisits
 pub mod FitCounts
+pub mod GrownBatches
+pub mod LegalNames
 pub mod NewCopies
 pub mod NextAttrs
 pub mod NextPlaces
@@ -15,8 +17,11 @@ pub mod NextVisits
 pub mod PartialSteps
 pub mod SameCounts
 pub mod SameEntries
+pub mod SourceBatch
 pub mod Stands
 pub mod TreeCounts
+pub mod ToldFacts
+pub mod VisitBatch
 pub mod Visits
 pub mod WalkOrder
 pub mod WholeCopy

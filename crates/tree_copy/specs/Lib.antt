@@ -5,5 +5,6 @@ pub mod CopiedPlaces
 pub mod CopiedRows
 pub mod CopyLevels
 pub mod CopySteps
+pub mod CopyWalks
 pub mod PartialCopies
 pub mod WalkOrder

@@ -1,7 +1,7 @@
-ghost use Rattle.std.specs.Prelude.{◌≡◌, ◌<◌, ◌∷◌, ◌++◌, ℕ, List, [], Bool, true, false, find, IsTrue, None, Some};
+ghost use Rattle.std.specs.Prelude.{◌≡◌, ◌<◌, ◌∷◌, ◌++◌, ◌&&◌, ℕ, List, [], Bool, true, false, find, IsTrue, None, Some};
 ghost use Rattle.op_frames.specs.declared.operation.Op.TheVariants as ops;
 ghost use Rattle.plain_tree.specs.Below.{at_and_below, children, is_among};
-ghost use Rattle.plain_tree.specs.Checks.{first_failure};
+ghost use Rattle.plain_tree.specs.Checks.{attribute_name_check, first_failure, name_check};
 ghost use Rattle.plain_tree.specs.Entries.{add_entry, entry_at};
 ghost use Rattle.plain_tree.specs.Names.{NamesInOrder};
 ghost use Rattle.plain_tree.specs.Numbers.{InOrder};
@@ -17,10 +17,13 @@ ghost use Rattle.s3_rows.specs.Selections.{by_entry_name, inode_at, named_entrie
 ghost use Rattle.s3_rows.specs.Tables.{Tables};
 ghost use Rattle.s3_rows.specs.Validity.{has_inode, is_directory, HasUniqueNames, IsValid};
 ghost use Rattle.tree_rows.specs.Shapes.{Represents};
-ghost use Rattle.tree_copy.specs.CopiedRows.{all_seen, AreVisitsOf, Visit, names_copied, names_fit};
+ghost use Rattle.ref_counts.specs.Links.{places_from};
+ghost use Rattle.tree_copy.specs.CopiedNames.{AreAttrNames};
+ghost use Rattle.tree_copy.specs.CopiedPlaces.{file_copied, file_fits, files_copied, files_fit};
+ghost use Rattle.tree_copy.specs.CopiedRows.{all_seen, AreVisitsOf, Visit, names_copied, names_fit, visit_copied, visit_fits};
 ghost use Rattle.tree_copy.specs.declared.walk.Level.{Level};
 ghost use Rattle.tree_copy.specs.CopyLevels.{first_level, HasCome, levels_after, visit_of};
-ghost use Rattle.tree_copy.specs.CopySteps.{AreNamesOf, IsCopyStep, tree_copied, tree_fits};
+ghost use Rattle.tree_copy.specs.CopySteps.{AreNamesOf, inodes_seen, IsCopyStep, tree_copied, tree_fits};
 ghost use Rattle.tree_copy.specs.WalkOrder.{walked};
 ghost use Rattle.tree_copy.specs.PartialCopies.{HasMore, IsPartial, also_entry, begun, entered, without_entries};
 
@@ -105,4 +108,24 @@ pub fn directories_and_single_links_are_seen_first()
         → IsWellFormed whole → IsTrue (has_inode is_directory t top) → HasCome t whole top visits (l ∷ levels)
         → find (is_past by_entry_name l.last) (named_entries t l.directory) ≡ Some e → inode_at t e.row.inode ≡ Some r → r.refcount ≡ 1
         → is_among (all_seen (top ∷ []) visits) r.id ≡ false }
+{}
+
+/// The batch of a copy grows at its end, by what comes for one visit more and by the places of one inode more.
+pub fn batches_of_copies_grow_at_their_ends()
+    ensures names { (t : Tables) (next now : ℕ) (source directory : Inode) (name : List ℕ) (visits : List Visit) (v : Visit)
+        → names_copied t next now source directory name (visits ++ v ∷ [])
+        ≡ names_copied t next now source directory name visits ++ visit_copied t next now (inodes_seen source visits) v (tables_after (names_copied t next now source directory name visits) t) }
+    ensures names_fit { (t : Tables) (next now : ℕ) (source directory : Inode) (name : List ℕ) (visits : List Visit) (v : Visit)
+        → names_fit t next now source directory name (visits ++ v ∷ [])
+        ≡ (names_fit t next now source directory name visits && visit_fits t next now (inodes_seen source visits) v (tables_after (names_copied t next now source directory name visits) t)) }
+    ensures places { (t : Tables) (next x : ℕ) (seen xs : List ℕ) → files_copied t next seen (xs ++ x ∷ []) t
+        ≡ files_copied t next seen xs t ++ file_copied (copy_number next seen x) (places_from t x 0) (tables_after (files_copied t next seen xs t) t) }
+    ensures places_fit { (t : Tables) (next x : ℕ) (seen xs : List ℕ) → files_fit t next seen (xs ++ x ∷ []) t
+        ≡ (files_fit t next seen xs t && file_fits (copy_number next seen x) (places_from t x 0) (tables_after (files_copied t next seen xs t) t)) }
+{}
+
+/// What a copy uses more are names such as Setxattr takes: the attributes of an inode have no others, nor have entries.
+pub fn copies_use_legal_names()
+    ensures attributes { (t : Tables) (whole : Tree) (r : Inode) → Represents t whole → IsWellFormed whole → inode_at t r.id ≡ Some r → AreAttrNames t r.id }
+    ensures entries { (name : List ℕ) → name_check name ≡ None → attribute_name_check name ≡ None }
 {}

@@ -7,17 +7,21 @@ mod fits;
 mod laws;
 mod names;
 mod places;
+mod progress;
 mod rows;
+mod source;
 mod walk;
 
 pub use bytes::{copied_trees_keep_bytes, copied_trees_make_no_blocks};
 pub use entries::{CopySpot, copy_visit};
 pub use fits::{places_fit_by_their_counts, places_that_do_not_fit_are_of_the_tree};
 pub use laws::{
-    copied_names_leave_valid_tables, copied_trees_are_steps, copy_walks_come_to_all,
-    directories_and_single_links_are_seen_first, partial_copies_come_to_be_whole,
-    walks_go_on_node_by_node,
+    batches_of_copies_grow_at_their_ends, copied_names_leave_valid_tables, copied_trees_are_steps,
+    copies_use_legal_names, copy_walks_come_to_all, directories_and_single_links_are_seen_first,
+    partial_copies_come_to_be_whole, walks_go_on_node_by_node,
 };
 pub use names::copy_attrs;
 pub use places::copy_places;
+pub use progress::Copied;
 pub use rows::{copy_entry, copy_node};
+pub use source::copy_source;
