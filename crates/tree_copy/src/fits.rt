@@ -16,7 +16,9 @@ ghost use Rattle.byte_steps.specs.Counts.{equal_blocks};
 ghost use Rattle.tree_copy.specs.CopiedCounts.{copied_block_count};
 ghost use Rattle.tree_copy.specs.CopiedPlaces.{files_fit};
 
-use byte_steps::{counts_of_exact_tables, places_of_files_are_counted};
+use byte_steps::{
+    blocks_of_exact_tables_have_rows, counts_of_exact_tables, places_of_files_are_counted,
+};
 
 /// The places of copies fit where each block that they name counts fewer than 2^62 places with them, and only there.
 pub fn places_fit_by_their_counts()
@@ -26,13 +28,21 @@ pub fn places_fit_by_their_counts()
         → (b : Block) × (block_at t b.id ≡ Some b) × (1 ≤ copied_block_count t inodes b.id) × (2 ^ 62 ≤ b.refcount + copied_block_count t inodes b.id) }
 {}
 
-/// Where the places of a copy do not fit, and all places were exact and no two different blocks collide, the tree with the copy would
-/// have some block in 2^62 places or more.
-pub fn places_that_do_not_fit_are_of_the_tree()
-    ensures { (digest_of : List ℕ → List ℕ) (t : Tables) (whole : Tree) (pass source parent now next : ℕ) (name : List ℕ) (seen : List ℕ) → IsValid t → Represents t whole
+/// Where all places were exact and no two different blocks collide, the places of a copy fit where each block that the tree with the copy
+/// has more often is in fewer than 2^62 places of it, and only there.
+pub fn places_fit_by_the_tree()
+    ensures fit { (digest_of : List ℕ → List ℕ) (t : Tables) (whole : Tree) (pass source parent now next : ℕ) (name : List ℕ) (seen : List ℕ) → IsValid t → Represents t whole
+        → IsExact digest_of t no_overlay whole → IsCollisionFree digest_of (blocks_in whole) → IsTrue (files_fit t next seen (at_and_below whole source) t)
+        → (b : List ℕ) → Contains (blocks_in whole) b
+        → equal_blocks b (blocks_in whole) < equal_blocks b (blocks_in (effect whole pass (ops.CopyTree source parent name) now))
+        → equal_blocks b (blocks_in (effect whole pass (ops.CopyTree source parent name) now)) < 2 ^ 62 }
+    ensures over { (digest_of : List ℕ → List ℕ) (t : Tables) (whole : Tree) (pass source parent now next : ℕ) (name : List ℕ) (seen : List ℕ) → IsValid t → Represents t whole
         → IsExact digest_of t no_overlay whole → IsCollisionFree digest_of (blocks_in whole) → files_fit t next seen (at_and_below whole source) t ≡ false
-        → (b : List ℕ) × Contains (blocks_in whole) b × (2 ^ 62 ≤ equal_blocks b (blocks_in (effect whole pass (ops.CopyTree source parent name) now))) }
+        → (b : List ℕ) × Contains (blocks_in whole) b
+        × (equal_blocks b (blocks_in whole) < equal_blocks b (blocks_in (effect whole pass (ops.CopyTree source parent name) now)))
+        × (2 ^ 62 ≤ equal_blocks b (blocks_in (effect whole pass (ops.CopyTree source parent name) now))) }
 {
+    blocks_of_exact_tables_have_rows();
     counts_of_exact_tables();
     places_of_files_are_counted();
 }

@@ -14,7 +14,7 @@ mod walk;
 
 pub use bytes::{copied_trees_keep_bytes, copied_trees_make_no_blocks};
 pub use entries::{CopySpot, copy_visit};
-pub use fits::{places_fit_by_their_counts, places_that_do_not_fit_are_of_the_tree};
+pub use fits::{places_fit_by_the_tree, places_fit_by_their_counts};
 pub use laws::{
     batches_of_copies_grow_at_their_ends, copied_names_leave_valid_tables, copied_trees_are_steps,
     copies_use_legal_names, copy_walks_come_to_all, directories_and_single_links_are_seen_first,
