@@ -1,3 +1,4 @@
+mod LostPlaces
 pub mod Greatest
 pub mod Loops
 pub mod MovedNames

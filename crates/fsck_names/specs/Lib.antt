@@ -1,4 +1,6 @@
 pub mod Entries
+pub mod Losing
+pub mod Losses
 pub mod Made
 pub mod Numbers
 pub mod Pass

@@ -2,12 +2,13 @@
 use Rattle.std.specs.Prelude.{ℕ, List, [], ◌∷◌, Option, Some, option_map, map, codes}
 use Rattle.s3_base.specs.declared.node_kind.Kind.TheVariants as kinds
 use Rattle.s3_rows.specs.declared.change.Change.{Change}
-use Rattle.s3_rows.specs.Rows.{Inode, Name, Content}
+use Rattle.s3_rows.specs.Rows.{Inode, Name, Content, InodeBlock}
 use Rattle.s3_rows.specs.Tables.{Tables}
 use Rattle.s3_rows.specs.Batches.{tables_after}
 use Rattle.s3_rows.specs.Validity.{lost_and_found}
 use Rattle.s3_rows.specs.Made.{made_tables, made_parameters, made_directory}
 use Rattle.fsck_findings.specs.Line.{line_of}
+use Rattle.fsck_names.specs.Losses.{pass_on_losses}
 use Rattle.fsck_names.specs.Pass.{pass_on_names}
 
 -- ---- rows
@@ -117,3 +118,31 @@ lost_file next_inode next_name = beside_made (file 3 1 ∷ []) [] [] next_inode 
 -- a file that is to be moved beside the greatest name id
 abbrev pub greatest_name : Tables
 greatest_name = beside_made (file 3 1 ∷ []) (name 4611686018427387903 (codes "z") ∷ []) [] 4 2
+
+-- ---- losses
+
+abbrev pub loss_lines : Tables → Option (List (List ℕ))
+loss_lines t = option_map (λ made. map line_of made.found) (pass_on_losses t)
+
+-- the entries after the pass, and the places
+abbrev pub entries_after_losses : Tables → Option (List Content)
+entries_after_losses t = option_map (λ made. (tables_after made.batch t).contents) (pass_on_losses t)
+
+abbrev pub places_after_losses : Tables → Option (List InodeBlock)
+places_after_losses t = option_map (λ made. (tables_after made.batch t).inode_blocks) (pass_on_losses t)
+
+-- the counts of inodes after the pass
+abbrev pub counts_after_losses : Tables → Option (List ℕ)
+counts_after_losses t = option_map (λ made. map (λ i. i.refcount) (tables_after made.batch t).inodes) (pass_on_losses t)
+
+abbrev pub place : ℕ → ℕ → ℕ → InodeBlock
+place inode blockno block = record { inode = inode; blockno = blockno; block = block }
+
+-- two files whose blocks 1 and 9 are gone; the second is `inode-3` in lost+found, and its count is not the listed one
+abbrev pub lost_blocks : ℕ → Tables
+lost_blocks next_name =
+    record (beside_made (file 3 2 ∷ file 4 5 ∷ []) (name 2 (codes "a") ∷ name 3 (codes "b") ∷ name 4 (codes "inode-3") ∷ [])
+    (entry 1 2 3 ∷ entry 1 3 3 ∷ entry 2 4 4 ∷ []) 5 next_name) {
+      inode_blocks = place 3 0 1 ∷ place 3 1 2 ∷ place 4 0 9 ∷ [];
+      blocks = record { id = 2; digest = record { 0 = 7 ∷ [] }; refcount = 1; size = 10; object = 1 } ∷ [];
+    }

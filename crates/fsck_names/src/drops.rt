@@ -78,7 +78,7 @@ pub(crate) fn drop_entries<E: EntryTest>(
 }
 
 /// Adds the deletes of entries, which are no findings.
-fn tell_deleted(gone: &[ContentRow], repair: &mut Repair) -> Result<(), AllocError>
+pub(crate) fn tell_deleted(gone: &[ContentRow], repair: &mut Repair) -> Result<(), AllocError>
     ensures batch { OnOk result (repair.new.batch ≡ repair.old.batch ++ map delete_entry gone.now) }
     ensures findings { repair.new.findings ≡ repair.old.findings }
 {

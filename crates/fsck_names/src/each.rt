@@ -12,14 +12,17 @@ use fsck_findings::{PassFault, Repair};
 use s3_rows::{InodeRow, Tables};
 use std::alloc::{AllocError, Global};
 
-/// What is done about each inode that passes a test.
-pub(crate) trait InodeStep {
+/// A test of inodes.
+pub(crate) trait InodeTest {
     ghost test: { tables.Tables → Inode → Bool };
-
-    ghost step: { numbers.Free → Inode → tables.Tables → Option Made };
 
     fn passes(tables: &Tables, row: &InodeRow) -> bool
         ensures { result ≡ test tables.now row.now };
+}
+
+/// What is done about an inode.
+pub(crate) trait InodeStep {
+    ghost step: { numbers.Free → Inode → tables.Tables → Option Made };
 
     fn take(
         alloc: Global,
@@ -33,7 +36,7 @@ pub(crate) trait InodeStep {
 }
 
 /// The inodes that pass the test.
-fn passing<S: InodeStep>(alloc: Global, tables: &Tables) -> Result<Vec<InodeRow>, AllocError>
+fn passing<S: InodeTest>(alloc: Global, tables: &Tables) -> Result<Vec<InodeRow>, AllocError>
     ensures { IfOk result (λ v. v.items ≡ filter (S.test tables.now) tables.now.inodes) }
 {
     let mut found = Vec::new(alloc);
@@ -46,7 +49,7 @@ fn passing<S: InodeStep>(alloc: Global, tables: &Tables) -> Result<Vec<InodeRow>
 }
 
 /// The step for each of the rows, in order.
-fn take_each<S: InodeStep>(
+pub(crate) fn take_each<S: InodeStep>(
     alloc: Global,
     free: Free,
     tables: &mut Tables,
@@ -63,7 +66,7 @@ fn take_each<S: InodeStep>(
 }
 
 /// The step for each inode that passes the test.
-pub(crate) fn each_inode<S: InodeStep>(
+pub(crate) fn each_inode<S: InodeTest + InodeStep>(
     alloc: Global,
     free: Free,
     tables: &mut Tables,

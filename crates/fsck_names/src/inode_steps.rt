@@ -6,7 +6,7 @@ ghost use Rattle.fsck_names.specs.Entries.{names_empty_link};
 ghost use Rattle.fsck_names.specs.Pass as pass;
 ghost use Rattle.fsck_names.specs.Steps.{Takes};
 
-use crate::each::InodeStep;
+use crate::each::{InodeStep, InodeTest};
 use crate::edits::delete_inode;
 use crate::entry_tests::EntryTest;
 use crate::look_ups::{finds_target, inode_row};
@@ -41,14 +41,16 @@ fn remove_inode(
 /// A directory that no entry names is moved.
 pub(crate) struct LostDirectory;
 
-impl InodeStep for LostDirectory {
+impl InodeTest for LostDirectory {
     ghost test = { pass.is_lost_directory };
-
-    ghost step = { pass.move_directory };
 
     fn passes(tables: &Tables, row: &InodeRow) -> bool {
         row.id != 1 && !is_named(tables, row.id) && row.kind == Kind::Directory
     }
+}
+
+impl InodeStep for LostDirectory {
+    ghost step = { pass.move_directory };
 
     fn take(
         alloc: Global,
@@ -64,14 +66,16 @@ impl InodeStep for LostDirectory {
 /// A file or a link that no entry names goes where its count is 0, and else is moved.
 pub(crate) struct LostFile;
 
-impl InodeStep for LostFile {
+impl InodeTest for LostFile {
     ghost test = { pass.is_lost_file };
-
-    ghost step = { pass.put_away };
 
     fn passes(tables: &Tables, row: &InodeRow) -> bool {
         row.kind != Kind::Directory && !is_named(tables, row.id) && finds_target(tables, row)
     }
+}
+
+impl InodeStep for LostFile {
+    ghost step = { pass.put_away };
 
     fn take(
         alloc: Global,
@@ -91,14 +95,16 @@ impl InodeStep for LostFile {
 /// A link without target goes.
 pub(crate) struct EmptyLink;
 
-impl InodeStep for EmptyLink {
+impl InodeTest for EmptyLink {
     ghost test = { pass.is_empty_link };
-
-    ghost step = { λ _. pass.remove_inode };
 
     fn passes(tables: &Tables, row: &InodeRow) -> bool {
         !finds_target(tables, row)
     }
+}
+
+impl InodeStep for EmptyLink {
+    ghost step = { λ _. pass.remove_inode };
 
     fn take(
         alloc: Global,

@@ -42,3 +42,13 @@ pub fn worn_passes()
     ensures greatest { worked.lines_of worked.greatest_name ≡ None }
     ensures not_needed { worked.lines_of (worked.tables_of (worked.directory 1 1 ∷ worked.directory 2 1 ∷ []) (worked.name 1 (codes "lost+found") ∷ []) (worked.entry 1 1 2 ∷ []) (2 ^ 62) (2 ^ 62)) ≡ Some [] }
 {}
+
+/// Places that are lost, and the files that they are of. The name that the first file would get is taken.
+pub fn losses_worked_by_hand()
+    ensures lines { worked.loss_lines (worked.lost_blocks 5) ≡ Some (codes "inode 3 block 0 lost" ∷ codes "inode 4 block 0 lost" ∷ codes "inode 3 moved" ∷ codes "inode 4 moved" ∷ []) }
+    ensures entries { worked.entries_after_losses (worked.lost_blocks 5) ≡ Some (worked.entry 1 1 2 ∷ worked.entry 2 5 3 ∷ worked.entry 2 6 4 ∷ []) }
+    ensures places { worked.places_after_losses (worked.lost_blocks 5) ≡ Some (worked.place 3 1 2 ∷ []) }
+    ensures counts { worked.counts_after_losses (worked.lost_blocks 5) ≡ Some (1 ∷ 1 ∷ 1 ∷ 5 ∷ []) }
+    ensures whole { worked.loss_lines (made_tables 4096 8 0) ≡ Some [] }
+    ensures worn { worked.loss_lines (worked.lost_blocks (2 ^ 62 - 1)) ≡ None }
+{}

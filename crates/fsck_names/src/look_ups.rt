@@ -2,11 +2,11 @@
 ghost use Rattle.std.specs.Prelude.{◌≡◌, Option};
 ghost use Rattle.std.specs.Option.{option_copied};
 ghost use Rattle.std.specs.Ordering.{is_eq};
-ghost use Rattle.s3_rows.specs.Selections.{inode_at, name_at, bytes_cmp, bytes_of_name, target_at};
+ghost use Rattle.s3_rows.specs.Selections.{block_at, inode_at, name_at, bytes_cmp, bytes_of_name, target_at};
 ghost use Rattle.s3_rows.specs.Validity.{finds_target, has_inode, is_directory};
 
 use s3_base::Kind;
-use s3_rows::{InodeRow, NameRow, Tables, TargetRow};
+use s3_rows::{BlockRow, InodeRow, NameRow, Tables, TargetRow};
 
 pub(crate) fn inode_row(tables: &Tables, id: u64) -> Option<&InodeRow>
     ensures { option_copied result ≡ inode_at tables.now id }
@@ -22,6 +22,16 @@ pub(crate) fn name_row(tables: &Tables, id: u64) -> Option<&NameRow>
     ensures { option_copied result ≡ name_at tables.now id }
 {
     let rows = tables.names.as_slice();
+    match rows.binary_search_by_key(&id, |row| row.id) {
+        Ok(place) => Some(&rows[place]),
+        Err(_) => None,
+    }
+}
+
+pub(crate) fn block_row(tables: &Tables, id: u64) -> Option<&BlockRow>
+    ensures { option_copied result ≡ block_at tables.now id }
+{
+    let rows = tables.blocks.as_slice();
     match rows.binary_search_by_key(&id, |row| row.id) {
         Ok(place) => Some(&rows[place]),
         Err(_) => None,

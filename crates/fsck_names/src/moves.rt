@@ -54,7 +54,7 @@ fn is_taken(tables: &Tables, parent: u64, name: &[u8]) -> bool
 }
 
 /// The first name of a moved inode that the directory has not. Of one more than there are entries, one is free.
-fn free_name(
+pub(crate) fn free_name(
     alloc: Global,
     tables: &Tables,
     parent: u64,
@@ -167,7 +167,7 @@ fn enter_new(
 }
 
 /// The directory `lost+found`.
-fn lost_and_found_of(tables: &Tables) -> Option<u64>
+pub(crate) fn lost_and_found_of(tables: &Tables) -> Option<u64>
     ensures inode { result ≡ entries.lost_and_found_of tables.now }
     ensures range { IfSome result IsId }
 {
@@ -199,7 +199,7 @@ fn listed_count(tables: &Tables, id: u64) -> u64
 }
 
 /// Whether the count of an inode is the listed one.
-fn is_counted(tables: &Tables, row: &InodeRow) -> bool
+pub(crate) fn is_counted(tables: &Tables, row: &InodeRow) -> bool
     ensures counts { result ≡ counts_inode tables.now row.now }
     ensures grows { IsTrue result → row.now.refcount + 1 < 2 ^ 62 }
 {
