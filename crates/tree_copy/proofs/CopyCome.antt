@@ -88,7 +88,7 @@ next_is_least last name rows e y up next found later = by_key (has_key by_entry_
 
 -- ---- visits
 
-all_seen-last : (seen : List ℕ) (visits : List Visit) (v : Visit) → all_seen seen (visits ++ v ∷ []) ≡ seen_after (all_seen seen visits) v
+pub all_seen-last : (seen : List ℕ) (visits : List Visit) (v : Visit) → all_seen seen (visits ++ v ∷ []) ≡ seen_after (all_seen seen visits) v
 all_seen-last seen [] v = refl
 all_seen-last seen (w ∷ visits) v = all_seen-last (seen_after seen w) visits v
 
@@ -102,7 +102,7 @@ AreVisits-last told seen done (w ∷ visits) v are is new = (
       (ap (λ (ds : List Visit). is_visited ds v.directory v.entry.name) (append_assoc done (w ∷ []) visits) ∙ new),
 )
 
-or_none : (b : Bool) → (b || false) ≡ b
+pub or_none : (b : Bool) → (b || false) ≡ b
 or_none true = refl
 or_none false = refl
 
@@ -230,6 +230,13 @@ module _ (told : Tables) (whole : Tree) (v : IsValid told) (same : Represents to
           cc clash
 
   -- ---- an entry of a level
+
+  -- the tree has it too
+  pub listed_name : (l : Level) → IsTrue (has_inode is_directory told l.directory) → (e : NamedEntry)
+      → find (is_past by_entry_name l.last) (named_entries told l.directory) ≡ Some e → entry_at whole l.directory e.name ≡ Some e.row.inode
+  listed_name l folder e next =
+      listed_entry told whole same l.directory e.name e folder
+      (row_at_from_find by_entry_name nat_list_cmp_total (is_past by_entry_name l.last) (named_entries told l.directory) e (rising l.directory) next)
 
   module _ (visits : List Visit) (l : Level) (levels : List Level) (come : HasCome told whole top visits (l ∷ levels)) (e : NamedEntry)
       (next : find (is_past by_entry_name l.last) (named_entries told l.directory) ≡ Some e) (r : Inode) (there : inode_at told e.row.inode ≡ Some r) where

@@ -5,10 +5,14 @@ pub mod CopiedNode
 pub mod CopiedPlaces
 pub mod CopiedTrees
 pub mod CopyCome
+pub mod CopyGoes
+pub mod CopyMade
+pub mod CountedLinks
 pub mod FirstVisits
 pub mod FitCounts
 pub mod GrownBatches
 pub mod LegalNames
+pub mod LinkBounds
 pub mod NewCopies
 pub mod NextAttrs
 pub mod NextPlaces

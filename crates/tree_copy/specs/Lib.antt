@@ -4,6 +4,7 @@ pub mod CopiedNames
 pub mod CopiedPlaces
 pub mod CopiedRows
 pub mod CopyLevels
+pub mod CopyPlans
 pub mod CopySteps
 pub mod CopyWalks
 pub mod PartialCopies

@@ -25,3 +25,4 @@ pub use places::copy_places;
 pub use progress::Copied;
 pub use rows::{copy_entry, copy_node};
 pub use source::copy_source;
+pub use walk::copy_names;
