@@ -27,5 +27,6 @@ pub mod TreeCounts
 pub mod ToldFacts
 pub mod VisitBatch
 pub mod Visits
+pub mod WaitingBytes
 pub mod WalkOrder
 pub mod WholeCopy

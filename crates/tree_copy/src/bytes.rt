@@ -11,13 +11,13 @@ ghost use Rattle.s3_rows.specs.Tables.{IsOrdered, Tables};
 ghost use Rattle.s3_rows.specs.Validity.{IsValid};
 ghost use Rattle.tree_rows.specs.Contents.{Contents};
 ghost use Rattle.tree_rows.specs.Shapes.{Represents};
-ghost use Rattle.core_model.specs.Bytes.{HasBytes, no_overlay};
+ghost use Rattle.core_model.specs.Bytes.{HasBytes, Overlay, no_overlay};
 ghost use Rattle.core_model.specs.Exact.{IsExact};
 ghost use Rattle.core_model.specs.Occurring.{blocks_in};
 ghost use Rattle.core_model.specs.Safe.{HaveHeld, Held};
 ghost use Rattle.byte_steps.specs.Counts.{different_blocks};
 ghost use Rattle.byte_steps.specs.Shared.{SharesBlocks};
-ghost use Rattle.tree_copy.specs.CopiedBytes.{CopiesFiles};
+ghost use Rattle.tree_copy.specs.CopiedBytes.{CopiesFiles, WaitsElsewhere};
 ghost use Rattle.tree_copy.specs.CopySteps.{IsCopyStep};
 
 use block_steps::kept_rows_keep_what_is_held;
@@ -43,6 +43,18 @@ pub fn copied_trees_keep_bytes()
 {
     kept_rows_keep_what_is_held();
     shared_blocks_keep_bytes();
+}
+
+/// The same holds where blocks of other files wait to be linked: they still wait after the copy, and all files have their bytes.
+pub fn copied_trees_keep_waiting_bytes()
+    ensures bytes { (m : Contents) (t after : Tables) (over : Overlay) (whole : Tree) (pass source parent now : ℕ) (name : List ℕ) → IsValid t → Represents t whole
+        → InOrder whole → IsCopyStep t after whole source (effect whole pass (ops.CopyTree source parent name) now) → WaitsElsewhere whole source over
+        → HasBytes m t over whole → HasBytes m after over (effect whole pass (ops.CopyTree source parent name) now) }
+    ensures exact { (digest_of : List ℕ → List ℕ) (t after : Tables) (over : Overlay) (whole : Tree) (pass source parent now : ℕ) (name : List ℕ) → Represents t whole
+        → InOrder whole → IsCopyStep t after whole source (effect whole pass (ops.CopyTree source parent name) now) → WaitsElsewhere whole source over
+        → IsExact digest_of t over whole → IsExact digest_of after over (effect whole pass (ops.CopyTree source parent name) now) }
+{
+    kept_rows_keep_what_is_held();
 }
 
 /// A copy makes no block: as many blocks have rows after it, and as many objects have a block, as before it. Neither has its tree another

@@ -12,7 +12,9 @@ mod rows;
 mod source;
 mod walk;
 
-pub use bytes::{copied_trees_keep_bytes, copied_trees_make_no_blocks};
+pub use bytes::{
+    copied_trees_keep_bytes, copied_trees_keep_waiting_bytes, copied_trees_make_no_blocks,
+};
 pub use entries::{CopySpot, copy_visit};
 pub use fits::{places_fit_by_the_tree, places_fit_by_their_counts};
 pub use laws::{
