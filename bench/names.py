@@ -45,8 +45,8 @@ def rename(parent, old, other, new):
 
 
 class Program:
-    def __init__(self, path):
-        words = [path, "replay", "4096", "64", "8"]
+    def __init__(self, path, block_size=4096):
+        words = [path, "replay", str(block_size), "64", "8"]
         self.process = subprocess.Popen(words, stdin=subprocess.PIPE, stdout=subprocess.PIPE, bufsize=0)
 
     def answers(self, frames, size):
@@ -59,12 +59,12 @@ class Program:
         while left > 0:
             part = os.read(self.process.stdout.fileno(), 1 << 20)
             if not part:
-                sys.exit("names.py: the program ended too early")
+                sys.exit(f"{os.path.basename(sys.argv[0])}: the program ended too early")
             left -= len(part)
         took = time.perf_counter() - start
         writer.join()
         if left:
-            sys.exit("names.py: an answer is longer than its kind has bytes: some call was refused or was not made")
+            sys.exit(f"{os.path.basename(sys.argv[0])}: an answer is longer than its kind has bytes: some call was refused or was not made")
         return took
 
     def give(self, data):
@@ -75,7 +75,7 @@ class Program:
     def end(self):
         self.give(struct.pack(">IB", 1, 18))
         if self.process.wait() != 0:
-            sys.exit("names.py: the program failed")
+            sys.exit(f"{os.path.basename(sys.argv[0])}: the program failed")
 
 
 def file(i):
@@ -184,4 +184,5 @@ def main():
     print(f"the greatest ratio is {worst:.2f}: {'at most 3' if worst <= 3 else 'MORE THAN 3'}")
 
 
-main()
+if __name__ == "__main__":
+    main()
