@@ -3,7 +3,7 @@
 
 mod create;
 mod emptiness;
-mod entries;
+pub mod entries;
 mod link;
 mod lookup;
 mod mkdir;
@@ -18,6 +18,6 @@ mod readdir;
 mod rename;
 mod rmdir;
 mod unlink;
-mod upward;
+pub mod upward;
 
 pub use plans::plan;
