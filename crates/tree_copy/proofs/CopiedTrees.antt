@@ -70,7 +70,7 @@ differ-last (x ∷ xs) y apart new =
     first true is none new = absurd (cc new)
     first false is none new = ap not (none_more x y xs (false_from (list_any (λ c. c == x) xs) none) (eqb_comm y x ∙ is))
 
-differ-all_seen : (visits : List Visit) (seen : List ℕ) → IsTrue (differ (λ a b. b == a) seen) → IsTrue (differ (λ a b. b == a) (all_seen seen visits))
+pub differ-all_seen : (visits : List Visit) (seen : List ℕ) → IsTrue (differ (λ a b. b == a) seen) → IsTrue (differ (λ a b. b == a) (all_seen seen visits))
 differ-all_seen [] seen apart = apart
 differ-all_seen (v ∷ visits) seen apart = differ-all_seen visits (seen_after seen v) (by_case (is_among seen v.child.id) refl)
   where

@@ -4,10 +4,12 @@ pub mod CopiedNames
 pub mod CopiedNode
 pub mod CopiedPlaces
 pub mod CopiedTrees
+pub mod CopyChecks
 pub mod CopyCome
 pub mod CopyGoes
 pub mod CopyMade
 pub mod CountedLinks
+pub mod FilesInTurn
 pub mod FirstVisits
 pub mod FitCounts
 pub mod GrownBatches
@@ -20,6 +22,7 @@ pub mod NextRows
 pub mod NextVisits
 pub mod PartialSteps
 pub mod SameCounts
+pub mod PlannedCopy
 pub mod SameEntries
 pub mod SourceBatch
 pub mod Stands

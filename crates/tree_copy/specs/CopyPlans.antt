@@ -36,6 +36,25 @@ pub record IsCopyable (told : Tables) (whole : Tree) (source parent : ℕ) (name
   pub parent_found : inode_at told parent ≡ Some directory
   pub made : told.params ≡ Some p
 
+-- The same before the parameters are read, and before the checks of what the directory has.
+pub record MayHave (told : Tables) (whole : Tree) (source parent : ℕ) (name : List ℕ) (top directory : Inode) : Type 0 where
+  pub valid : IsValid told
+  pub unique : HasUniqueNames told
+  pub same : Represents told whole
+  pub well : IsWellFormed whole
+  pub passes : first_failure (copy_checks whole source parent name) ≡ None
+  pub source_found : inode_at told source ≡ Some top
+  pub parent_found : inode_at told parent ≡ Some directory
+
+pub record FindsBoth (told : Tables) (whole : Tree) (source parent : ℕ) (name : List ℕ) (top directory : Inode) : Type 0 where
+  pub valid : IsValid told
+  pub unique : HasUniqueNames told
+  pub same : Represents told whole
+  pub well : IsWellFormed whole
+  pub passes : first_failure (name_check name ∷ node_check (node_at whole source) ∷ directory_check (node_at whole source) ∷ node_check (node_at whole parent) ∷ directory_check (node_at whole parent) ∷ []) ≡ None
+  pub source_found : inode_at told source ≡ Some top
+  pub parent_found : inode_at told parent ≡ Some directory
+
 -- A count of a name or of a block, or the id of a name, would not be below 2^62 in the course of the copy, whose entries are visited in the
 -- order of the walk.
 pub record IsCopyWorn (t : Tables) (whole : Tree) (source parent now : ℕ) (name : List ℕ) : Type 0 where

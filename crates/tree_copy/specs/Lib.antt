@@ -1,5 +1,6 @@
 pub mod CopiedBytes
 pub mod CopiedCounts
+pub mod CopiedFiles
 pub mod CopiedNames
 pub mod CopiedPlaces
 pub mod CopiedRows

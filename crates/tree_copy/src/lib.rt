@@ -4,9 +4,11 @@
 mod bytes;
 mod entries;
 mod fits;
+mod files;
 mod laws;
 mod names;
 mod places;
+mod plans;
 mod progress;
 mod rows;
 mod source;
@@ -24,7 +26,6 @@ pub use laws::{
 };
 pub use names::copy_attrs;
 pub use places::copy_places;
-pub use progress::Copied;
+pub use plans::copy_batch;
 pub use rows::{copy_entry, copy_node};
 pub use source::copy_source;
-pub use walk::copy_names;

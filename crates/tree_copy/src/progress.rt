@@ -22,9 +22,9 @@ use std::collections::BTreeMap;
 /// that may be met again.
 #[derive(Debug, Drop)]
 pub struct Copied {
-    pub names: Option<Batch>,
-    pub seen: Vec<u64>,
-    pub numbers: BTreeMap<u64, u64>,
+    pub(crate) names: Option<Batch>,
+    pub(crate) seen: Vec<u64>,
+    pub(crate) numbers: BTreeMap<u64, u64>,
 }
 
 /// An inode may have the number.
@@ -93,7 +93,7 @@ fn next_names<K: Keeper>(
 
 impl Copied {
     /// Where the copy of an inode comes that an entry of a level names.
-    pub fn spot(&self, level: &Level, inode: u64, params: &Params, now: u64) -> CopySpot
+    pub(crate) fn spot(&self, level: &Level, inode: u64, params: &Params, now: u64) -> CopySpot
         ensures { result ≡ spot_of self.now params.now.next_inode level.now inode now }
     {
         match self.numbers.get(&inode) {
@@ -127,7 +127,7 @@ impl Copied {
     }
 
     /// Visits an entry: what it names, and then the entry itself.
-    pub fn visit<K: Keeper>(
+    pub(crate) fn visit<K: Keeper>(
         &mut self,
         alloc: Global,
         keeper: &mut K,

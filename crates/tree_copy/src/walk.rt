@@ -165,7 +165,7 @@ fn first_copied<K: Keeper>(
 
 /// All that the walk makes of a copy. None where an entry names an inode that has no row. The walk keeps one name for each directory on
 /// the way down. Where it took as many turns as a number can count there is no memory for the batch.
-pub fn copy_names<K: Keeper>(
+pub(crate) fn copy_names<K: Keeper>(
     alloc: Global,
     keeper: &mut K,
     top: &InodeRow,
