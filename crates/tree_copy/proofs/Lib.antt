@@ -15,6 +15,7 @@ pub mod FitCounts
 pub mod GrownBatches
 pub mod LegalNames
 pub mod LinkBounds
+pub mod NamesDrawn
 pub mod NewCopies
 pub mod NextAttrs
 pub mod NextPlaces

@@ -25,6 +25,7 @@ use Rattle.tree_rows.proofs.Attributed.{attr_is}
 use Rattle.op_checks.specs.Rows.{ids_row_check}
 use Rattle.op_checks.proofs.Nodes.{ids_check-row}
 use Rattle.ref_counts.specs.Links.{places_from}
+use Rattle.ref_counts.specs.Plans.{next_name_of}
 use Rattle.ref_counts.specs.declared.plan.Plan.TheVariants as plans
 use Rattle.row_steps.specs.RowChanges.{touched_row}
 use Rattle.tree_copy.specs.declared.progress.Copied.{Copied}
@@ -40,6 +41,7 @@ use Rattle.tree_copy.proofs.CopiedTrees.{IsCopyStep-copied, differ-all_seen}
 use Rattle.tree_copy.proofs.CopyMade.{next_number, top_id}
 use Rattle.tree_copy.proofs.FilesInTurn.{files_in_turn}
 use Rattle.tree_copy.proofs.LinkBounds.{counted_so_far}
+use Rattle.tree_copy.proofs.NamesDrawn.{copy_draws}
 
 -- ---- the walk is one
 
@@ -274,6 +276,11 @@ module _ (told : Tables) (whole : Tree) (source parent now : ℕ) (name : List �
             touch : List Change
             touch = changes.PutInode (touched_row now directory) ∷ []
 
+        drawn : next_name_of (tables_after after told) ≤ next_name_of told + 1
+        drawn =
+            subst (λ (b : List Change). next_name_of (tables_after b told) ≤ next_name_of told + 1) after_is
+            (copy_draws told whole.next_inode now top directory name copy.visits k.valid are.each)
+
         not_worn : IsCopyWorn told whole source parent now name → ⊥
         not_worn w =
             let tops : Some w.top ≡ Some top = sym w.source_found ∙ k.source_found in
@@ -286,4 +293,4 @@ module _ (told : Tables) (whole : Tree) (source parent now : ℕ) (name : List �
             (sym (λ i. tree_fits told whole.next_inode now (one i) (two i) name (visits_are i)) ∙ w.worn) all
 
         pub copy_planned : IsCopyPlan told whole pass source parent name now (plans.Commit after (replies.Attr (attr_of_row (copied_row p.next_inode now top))) [])
-        copy_planned = (passes, reply_is, step, some, refl, not_worn)
+        copy_planned = (passes, reply_is, step, drawn, some, refl, not_worn)

@@ -1,5 +1,5 @@
 -- When the plan of a CopyTree is right.
-use Rattle.std.specs.Prelude.{◌≡◌, ℕ, ◌==◌, List, [], ◌∷◌, length, false, Option, None, Some}
+use Rattle.std.specs.Prelude.{◌≡◌, ◌≤◌, ℕ, ◌+◌, ◌==◌, List, [], ◌∷◌, length, false, Option, None, Some}
 use Rattle.s3_base.specs.Errors.{einval}
 use Rattle.op_frames.specs.declared.operation.Op.TheVariants as ops
 use Rattle.plain_tree.specs.Below.{is_at_or_below}
@@ -13,6 +13,7 @@ use Rattle.s3_rows.specs.Selections.{inode_at}
 use Rattle.s3_rows.specs.Tables.{Tables}
 use Rattle.s3_rows.specs.Validity.{HasUniqueNames, IsValid}
 use Rattle.tree_rows.specs.Shapes.{Represents}
+use Rattle.ref_counts.specs.Plans.{next_name_of}
 use Rattle.ref_counts.specs.declared.plan.Plan.{Plan}
 use Rattle.ref_counts.specs.declared.plan.Plan.TheVariants as plans
 use Rattle.tree_copy.specs.CopiedRows.{Visit}
@@ -67,12 +68,12 @@ pub record IsCopyWorn (t : Tables) (whole : Tree) (source parent now : ℕ) (nam
   pub worn : tree_fits t whole.next_inode now top directory name visits ≡ false
 
 -- A refusal is that of the first check that fails. Where none fails, a count or an id is worn, or the reply is the tree's, and the batch
--- makes of the tables valid ones of the tree with the copy.
+-- makes of the tables valid ones of the tree with the copy. At most one name is drawn.
 abbrev pub IsCopyPlan : Tables → Tree → ℕ → ℕ → ℕ → List ℕ → ℕ → Plan → Type 0
 IsCopyPlan t whole pass source parent name now (plans.Refuse errno) = first_failure (checks whole pass (ops.CopyTree source parent name)) ≡ Some errno.0
 IsCopyPlan t whole pass source parent name now plans.Worn =
     (first_failure (checks whole pass (ops.CopyTree source parent name)) ≡ None) × IsCopyWorn t whole source parent now name
 IsCopyPlan t whole pass source parent name now (plans.Commit batch reply drop) =
     (first_failure (checks whole pass (ops.CopyTree source parent name)) ≡ None) × (reply ≡ success whole pass (ops.CopyTree source parent name) now)
-    × IsCopyStep t (tables_after batch t) whole source (effect whole pass (ops.CopyTree source parent name) now) × ((length batch == 0) ≡ false) × (drop ≡ [])
-    × (IsCopyWorn t whole source parent now name → ⊥)
+    × IsCopyStep t (tables_after batch t) whole source (effect whole pass (ops.CopyTree source parent name) now)
+    × (next_name_of (tables_after batch t) ≤ next_name_of t + 1) × ((length batch == 0) ≡ false) × (drop ≡ []) × (IsCopyWorn t whole source parent now name → ⊥)
