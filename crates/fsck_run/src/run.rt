@@ -1,0 +1,27 @@
+//! A whole check.
+ghost use Rattle.s3_base.specs.Faults.{HasCause};
+ghost use Rattle.fsck_run.specs.Faults.{keeper_has_failed, link_has_failed};
+
+use crate::{Check, FsckFault, Stepped};
+use fsck_findings::Findings;
+use s3_devices::Link;
+use s3_rows::Keeper;
+use std::alloc::Global;
+
+/// Checks and mends the tables of a keeper and the keys of a store, and says what it found, a line each.
+pub fn check<K: Keeper, L: Link>(
+    alloc: Global,
+    keeper: &mut K,
+    link: &mut L,
+) -> Result<Findings, FsckFault>
+    ensures keeper_cause { HasCause (K.faults keeper.old) (K.faults keeper.new) (keeper_has_failed result) }
+    ensures link_cause { HasCause (L.faults link.old) (L.faults link.new) (link_has_failed result) }
+{
+    let mut check = Check::begin(alloc);
+    for _step in 0..u64::MAX {
+        if let Stepped::Done(findings) = check.step(alloc, keeper, link)? {
+            return Ok(findings);
+        }
+    }
+    Err(FsckFault::Memory)
+}

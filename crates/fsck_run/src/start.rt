@@ -1,0 +1,138 @@
+//! What a check does before its passes: refusals, and the mark that it has begun.
+ghost use Rattle.std.specs.Prelude.{◌≡◌, ◌<◌, ◌^◌, false};
+ghost use Rattle.s3_base.specs.Faults.{HasCause};
+ghost use Rattle.fsck_run.specs.Faults.{keeper_has_failed, link_has_failed};
+ghost use Rattle.fsck_run.specs.Refusals as refusals;
+ghost use Rattle.fsck_run.specs.Refusals.{newer_refusal, newest, slots_refusal};
+
+use crate::FsckFault;
+use crate::listing::own_keys;
+use crate::pass_steps::tables_of;
+use metadata_backup::generation_of;
+use s3_devices::{KeyItem, KeyList, Link};
+use s3_rows::{Batch, Change, Keeper, Params, SlotRow, State, Tables};
+use std::alloc::Global;
+
+/// The generation that a key names, or 0.
+fn generation_or_zero(item: &KeyItem) -> u64
+    ensures { result ≡ refusals.generation_or_zero item.now }
+{
+    match generation_of(item.key.as_slice()) {
+        Some(number) => number,
+        None => 0,
+    }
+}
+
+/// The greatest generation that keys name, or 0.
+fn newest_in(keys: &[KeyItem]) -> u64
+    ensures { result ≡ newest keys.now }
+{
+    let mut newest = 0u64;
+    for item in keys {
+        newest = newest.max(generation_or_zero(item));
+    }
+    newest
+}
+
+/// Refuses a store that is newer than the keeper.
+fn refuse_newer(keys: &KeyList, params: Params) -> Result<(), FsckFault>
+    ensures { result ≡ newer_refusal (newest keys.now) params.generation }
+{
+    let store = newest_in(keys.as_slice());
+    let keeper = params.generation;
+    if store > keeper {
+        return Err(FsckFault::Newer { store, keeper });
+    }
+    Ok(())
+}
+
+/// Refuses tables with a block on the cache disk.
+fn refuse_slots(rows: &[SlotRow]) -> Result<(), FsckFault>
+    ensures slot { result ≡ slots_refusal rows.now }
+    ensures of_tables { keeper_has_failed result ≡ false }
+    ensures of_no_link { link_has_failed result ≡ false }
+{
+    match rows.first() {
+        Some(row) => Err(FsckFault::Slots(row.slot)),
+        None => Ok(()),
+    }
+}
+
+/// Sets the state of the file system.
+fn set_state<K: Keeper>(
+    alloc: Global,
+    keeper: &mut K,
+    params: Params,
+    state: State,
+) -> Result<(), FsckFault>
+    ensures keeper_cause { HasCause (K.faults keeper.old) (K.faults keeper.new) (keeper_has_failed result) }
+    ensures of_keeper { link_has_failed result ≡ false }
+{
+    let mut batch = Batch::new(alloc);
+    batch.push(Change::SetParams(Params { state, ..params }))?;
+    keeper.commit(&batch)?;
+    Ok(())
+}
+
+/// Marks a clean file system as one that is not, and says whether it was clean.
+fn mark<K: Keeper>(alloc: Global, keeper: &mut K, params: Params) -> Result<bool, FsckFault>
+    ensures keeper_cause { HasCause (K.faults keeper.old) (K.faults keeper.new) (keeper_has_failed result) }
+    ensures of_keeper { link_has_failed result ≡ false }
+{
+    if params.state != State::Clean {
+        return Ok(false);
+    }
+    set_state(alloc, keeper, params, State::Restored)?;
+    Ok(true)
+}
+
+/// What a check begins with: the keys of the store, and whether a mark was made.
+#[derive(Drop)]
+pub(crate) struct Started {
+    pub(crate) keys: KeyList,
+    pub(crate) marked: bool,
+}
+
+/// The keys of the store, or a refusal by what it and the tables are.
+fn look<K: Keeper, L: Link>(
+    alloc: Global,
+    keeper: &mut K,
+    link: &mut L,
+) -> Result<(Tables, KeyList), FsckFault>
+    ensures tables { K.told keeper.new ≡ K.told keeper.old }
+    ensures store { L.told link.new ≡ L.told link.old }
+    ensures keeper_cause { HasCause (K.faults keeper.old) (K.faults keeper.new) (keeper_has_failed result) }
+    ensures link_cause { HasCause (L.faults link.old) (L.faults link.new) (link_has_failed result) }
+{
+    let tables = tables_of(alloc, keeper)?;
+    let keys = own_keys(alloc, link)?;
+    refuse_newer(&keys, tables.params)?;
+    refuse_slots(tables.slots.as_slice())?;
+    Ok((tables, keys))
+}
+
+/// Lists the store, and marks a clean file system as one that is not. A refusal changes nothing.
+pub(crate) fn begin_check<K: Keeper, L: Link>(
+    alloc: Global,
+    keeper: &mut K,
+    link: &mut L,
+) -> Result<Started, FsckFault>
+    ensures store { L.told link.new ≡ L.told link.old }
+    ensures keeper_cause { HasCause (K.faults keeper.old) (K.faults keeper.new) (keeper_has_failed result) }
+    ensures link_cause { HasCause (L.faults link.old) (L.faults link.new) (link_has_failed result) }
+{
+    let (tables, keys) = look(alloc, keeper, link)?;
+    let marked = mark(alloc, keeper, tables.params)?;
+    Ok(Started { keys, marked })
+}
+
+/// Marks the file system as clean.
+pub(crate) fn finish<K: Keeper>(alloc: Global, keeper: &mut K) -> Result<(), FsckFault>
+    ensures keeper_cause { HasCause (K.faults keeper.old) (K.faults keeper.new) (keeper_has_failed result) }
+    ensures of_keeper { link_has_failed result ≡ false }
+{
+    let Some(params) = keeper.params()? else {
+        return Err(FsckFault::NoFileSystem);
+    };
+    set_state(alloc, keeper, params, State::Clean)
+}
