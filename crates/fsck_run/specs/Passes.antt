@@ -1,7 +1,9 @@
 -- The passes of a check that are one batch each, as functions of the tables and of the keys that the store lists; and what it leaves of
 -- tables to commit a batch that is not empty.
-use Rattle.std.specs.Prelude.{◌≡◌, List, [], ◌∷◌, max, map, Bool, true, false, Option, None, Some, option_map, Result, Ok, Err}
+use Rattle.std.specs.Prelude.{◌≡◌, ℕ, List, [], ◌∷◌, ◌++◌, max, map, Bool, true, false, Option, None, Some, option_map, Result, Ok, Err}
 use Rattle.s3_rows.specs.declared.change.Change.{Change}
+use Rattle.s3_rows.specs.declared.change.Change.TheVariants as changes
+use Rattle.s3_rows.specs.declared.params.State.{State}
 use Rattle.s3_rows.specs.Rows.{Parameters}
 use Rattle.s3_rows.specs.Tables.{Tables}
 use Rattle.s3_rows.specs.Told.{Told, with_batch}
@@ -66,3 +68,18 @@ committed (c ∷ cs) s = with_batch (c ∷ cs) s
 abbrev pub is_some_batch : List Change → Bool
 is_some_batch [] = false
 is_some_batch (c ∷ cs) = true
+
+-- the batch of a pass was committed, and its lines were added
+pub record IsTakenAs (f : Found) (before : Told) (after : Option Told) (old new : List (List ℕ)) (made : Bool) : Type 0 where
+  pub told : after ≡ Some (committed f.changes before)
+  pub lines : new ≡ old ++ map line_of f.findings
+  pub made_is : made ≡ is_some_batch f.changes
+
+-- the same, of a pass that needed no number that is not left
+abbrev pub IsTaken : Option Found → Told → Option Told → List (List ℕ) → List (List ℕ) → Bool → Type 0
+IsTaken None before after old new made = ⊥
+IsTaken (Some f) before after old new made = IsTakenAs f before after old new made
+
+-- the state of the file system is set
+abbrev pub state_change : Parameters → State → Change
+state_change p state = changes.SetParams (record p { state = state })

@@ -5,7 +5,7 @@ ghost use Rattle.s3_rows.specs.Tables.{IsOrdered};
 ghost use Rattle.s3_rows.specs.Told.{IfTold, Told};
 ghost use Rattle.fsck_findings.specs.Line.{line_of};
 ghost use Rattle.fsck_run.specs.Faults.{keeper_has_failed, link_has_failed};
-ghost use Rattle.fsck_run.specs.Passes.{committed, is_some_batch};
+ghost use Rattle.fsck_run.specs.Passes.{IsTaken, committed, is_some_batch};
 
 use crate::FsckFault;
 use crate::passes::Pass;
@@ -60,6 +60,9 @@ pub(crate) fn take_pass<K: Keeper, P: Pass>(
     keys: &KeyList,
     findings: &mut Findings,
 ) -> Result<bool, FsckFault>
+    ensures taken { IfOk result (λ made. (s : Told) → K.told keeper.old ≡ Some s → IsOrdered s.tables
+        → IsTaken (P.found keys.now s.tables) s (K.told keeper.new) findings.old findings.new made) }
+    ensures refused { OnErr result (K.told keeper.new ≡ K.told keeper.old) }
     ensures keeper_cause { HasCause (K.faults keeper.old) (K.faults keeper.new) (keeper_has_failed result) }
     ensures of_keeper { link_has_failed result ≡ false }
 {

@@ -1,7 +1,9 @@
 //! What a check does before its passes: refusals, and the mark that it has begun.
-ghost use Rattle.std.specs.Prelude.{◌≡◌, ◌<◌, ◌^◌, false};
+ghost use Rattle.std.specs.Prelude.{◌≡◌, ◌<◌, ◌^◌, [], ◌∷◌, false, option_map, OnOk, OnErr};
 ghost use Rattle.s3_base.specs.Faults.{HasCause};
 ghost use Rattle.fsck_run.specs.Faults.{keeper_has_failed, link_has_failed};
+ghost use Rattle.s3_rows.specs.Told.{with_batch};
+ghost use Rattle.fsck_run.specs.Passes.{state_change};
 ghost use Rattle.fsck_run.specs.Refusals as refusals;
 ghost use Rattle.fsck_run.specs.Refusals.{newer_refusal, newest, slots_refusal};
 
@@ -65,6 +67,8 @@ fn set_state<K: Keeper>(
     params: Params,
     state: State,
 ) -> Result<(), FsckFault>
+    ensures set { OnOk result (K.told keeper.new ≡ option_map (with_batch (state_change params state ∷ [])) (K.told keeper.old)) }
+    ensures refused { OnErr result (K.told keeper.new ≡ K.told keeper.old) }
     ensures keeper_cause { HasCause (K.faults keeper.old) (K.faults keeper.new) (keeper_has_failed result) }
     ensures of_keeper { link_has_failed result ≡ false }
 {
@@ -76,6 +80,7 @@ fn set_state<K: Keeper>(
 
 /// Marks a clean file system as one that is not, and says whether it was clean.
 fn mark<K: Keeper>(alloc: Global, keeper: &mut K, params: Params) -> Result<bool, FsckFault>
+    ensures refused { OnErr result (K.told keeper.new ≡ K.told keeper.old) }
     ensures keeper_cause { HasCause (K.faults keeper.old) (K.faults keeper.new) (keeper_has_failed result) }
     ensures of_keeper { link_has_failed result ≡ false }
 {
@@ -117,6 +122,7 @@ pub(crate) fn begin_check<K: Keeper, L: Link>(
     keeper: &mut K,
     link: &mut L,
 ) -> Result<Started, FsckFault>
+    ensures refused { OnErr result (K.told keeper.new ≡ K.told keeper.old) }
     ensures store { L.told link.new ≡ L.told link.old }
     ensures keeper_cause { HasCause (K.faults keeper.old) (K.faults keeper.new) (keeper_has_failed result) }
     ensures link_cause { HasCause (L.faults link.old) (L.faults link.new) (link_has_failed result) }
