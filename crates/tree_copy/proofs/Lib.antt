@@ -16,6 +16,8 @@ pub mod GrownBatches
 pub mod LegalNames
 pub mod LinkBounds
 pub mod NamesDrawn
+pub mod NameTotals
+pub mod NameUses
 pub mod NewCopies
 pub mod NextAttrs
 pub mod NextPlaces
@@ -26,6 +28,7 @@ pub mod SameCounts
 pub mod PlannedCopy
 pub mod SameEntries
 pub mod SourceBatch
+pub mod SpentNames
 pub mod Stands
 pub mod TreeCounts
 pub mod ToldFacts

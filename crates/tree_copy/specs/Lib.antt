@@ -8,5 +8,6 @@ pub mod CopyLevels
 pub mod CopyPlans
 pub mod CopySteps
 pub mod CopyWalks
+pub mod NameCounts
 pub mod PartialCopies
 pub mod WalkOrder

@@ -6,6 +6,7 @@ mod entries;
 mod fits;
 mod files;
 mod laws;
+mod name_fits;
 mod names;
 mod places;
 mod plans;
@@ -24,6 +25,7 @@ pub use laws::{
     copies_use_legal_names, copy_walks_come_to_all, directories_and_single_links_are_seen_first,
     partial_copies_come_to_be_whole, walks_go_on_node_by_node,
 };
+pub use name_fits::names_fit_by_their_counts;
 pub use names::copy_attrs;
 pub use places::copy_places;
 pub use plans::copy_batch;
