@@ -3,8 +3,8 @@
 
 mod bytes;
 mod entries;
-mod fits;
 mod files;
+mod fits;
 mod laws;
 mod name_fits;
 mod names;
