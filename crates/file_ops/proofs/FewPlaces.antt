@@ -340,7 +340,7 @@ few_cut count t later placed dropped batch id from row drops puts few =
 
 -- ---- blocks that change
 
-tail_few : (size len longer first : ℕ) (stored : ℕ → ℕ) → length (tail_before size len longer first stored) ≤ 1
+pub tail_few : (size len longer first : ℕ) (stored : ℕ → ℕ) → length (tail_before size len longer first stored) ≤ 1
 tail_few size len longer first stored =
     by_longer (nat_lt len longer) (nat_lt (rest_of size len last) (stored last) && nat_lt 0 len)
   where
@@ -356,7 +356,7 @@ tail_few size len longer first stored =
     by_longer true false = let most : 0 ≤ 1 = omega arith in most
     by_longer true true = by_first (nat_lt last first)
 
-length-numbers_from : (first count : ℕ) → length (numbers_from first count) ≡ count
+pub length-numbers_from : (first count : ℕ) → length (numbers_from first count) ≡ count
 length-numbers_from first zero = refl
 length-numbers_from first (suc count) = ap suc (length-numbers_from (first + 1) count)
 

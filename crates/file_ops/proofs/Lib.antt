@@ -5,7 +5,7 @@ mod Counting
 mod CutFiles
 mod Drawn
 mod DrawnFiles
-mod FewPlaces
+pub mod FewPlaces
 mod FileForms
 mod FileSteps
 mod FoundPlaces
@@ -16,10 +16,10 @@ mod Left
 mod Linking
 mod Loaded
 mod Losses
-mod NamedBlocks
+pub mod NamedBlocks
 mod Needed
 mod OldObjects
-mod PlacedBlocks
+pub mod PlacedBlocks
 mod PlacedForms
 mod PutObjects
 mod Puts

@@ -1,9 +1,7 @@
 -- A tree whose entries at and below a directory went one after the other, and at last the directory's own, is the one without it.
-use Rattle.std.proofs.Common.{◌≡◌, ◌≢◌, ◌<◌, ◌+◌, ◌⊎◌, inl, inr, ℕ, List, [], ◌∷◌, Bool, true, false, Option, None, Some, refl, sym, ap, ◌∙◌, subst, arith}
-use Rattle.std.proofs.lemmas.Bool.{both_ways, cases_eq, cases_order, cond-false, false_from_ne_true}
-use Rattle.std.specs.BTreeMap.{is_at}
-use Rattle.std.specs.Map.{keys_of, lookup}
-use Rattle.std.specs.Ordering.{nat_cmp}
+use Rattle.std.proofs.Common.{◌≡◌, ◌≢◌, ◌⊎◌, inl, inr, ℕ, List, Bool, true, false, Option, None, Some, refl, sym, ap, ◌∙◌, subst}
+use Rattle.std.proofs.lemmas.Bool.{both_ways, cases_eq, false_from_ne_true}
+use Rattle.std.specs.Map.{keys_of}
 use Rattle.std.specs.Prelude.{not, option_map}
 use Rattle.op_frames.specs.declared.operation.Op.TheVariants as ops
 use Rattle.op_frames.specs.declared.reply.Reply.{Reply}
@@ -20,9 +18,8 @@ use Rattle.plain_tree.specs.Operations.{checks, effect, reply_to, success, tree_
 use Rattle.plain_tree.specs.Tree.{Handle, Node, Tree, node_at, stamped}
 use Rattle.plain_tree.specs.WellFormed.{IsWellFormed}
 use Rattle.tree_laws.specs.Removals.{IsHeld, IsRemoved}
-use Rattle.tree_laws.proofs.Node.Keys.{other_number}
 use Rattle.tree_laws.proofs.Node.Kind.{directory_kind, folder_kind, holds_kind, is_a_folder, kind_directory, kind_in, kind_some, none_from, none_some, one_some}
-use Rattle.tree_laws.proofs.Node.Reading.{first_node, lookup_none_below}
+use Rattle.tree_laws.proofs.Node.Same.{same_nodes}
 use Rattle.tree_laws.proofs.Removal.Law.{removed_in}
 use Rattle.tree_laws.proofs.Shape.Below.{below_shape}
 use Rattle.tree_laws.proofs.Shape.Definition.{grown_of}
@@ -33,43 +30,6 @@ use Rattle.tree_laws.proofs.Shape.Words.{Grown, NoneGoes, not_there}
 use Rattle.immutable_trees.proofs.LostEntry.{Loses, lose}
 use Rattle.immutable_trees.proofs.Reached.{below_inside}
 use Rattle.immutable_trees.proofs.ShrunkTree.{IsFile, LeavesOuter, Shrinks, Shrinks-more, kind_stamped}
-
--- ---- nodes in the order of their numbers, by what look-ups find
-
-earlier : (e f : ℕ × Node) (es fs : List (ℕ × Node)) (next : ℕ) → Ascend (f.0 + 1) (keys_of fs) next → e.0 < f.0
-    → lookup (is_at (nat_cmp e.0)) (e ∷ es) ≡ lookup (is_at (nat_cmp e.0)) (f ∷ fs) → ⊥
-earlier e f es fs next up less same =
-    none_some (lookup (is_at (nat_cmp e.0)) (f ∷ fs)) e.1 (lookup_none_below e.0 f.0 (f ∷ fs) next (omega arith, up) less) (sym same ∙ first_node e es)
-
-same_nodes : (low : ℕ) (es fs : List (ℕ × Node)) (next : ℕ) → Ascend low (keys_of es) next → Ascend low (keys_of fs) next
-    → ((y : ℕ) → lookup (is_at (nat_cmp y)) es ≡ lookup (is_at (nat_cmp y)) fs) → es ≡ fs
-same_nodes low [] [] next up down same = refl
-same_nodes low [] (f ∷ fs) next up down same = absurd (none_some (lookup (is_at (nat_cmp f.0)) (f ∷ fs)) f.1 (sym (same f.0)) (first_node f fs))
-same_nodes low (e ∷ es) [] next up down same = absurd (none_some (lookup (is_at (nat_cmp e.0)) (e ∷ es)) e.1 (same e.0) (first_node e es))
-same_nodes low (e ∷ es) (f ∷ fs) next up down same =
-    elim (cases_order e.0 f.0) [
-      | inl number ↦
-          let both : Some e.1 ≡ Some f.1 =
-          sym (first_node e es) ∙ same e.0 ∙ ap (λ k. lookup (is_at (nat_cmp k)) (f ∷ fs)) number ∙ first_node f fs in
-          let value : e.1 ≡ f.1 = cc both in
-          let down_too : Ascend (e.0 + 1) (keys_of fs) next = subst (λ k. Ascend (k + 1) (keys_of fs) next) (sym number) down.1 in
-          let rest : es ≡ fs = same_nodes (e.0 + 1) es fs next up.1 down_too (λ y. later y number down_too) in
-          λ i. (number i, value i) ∷ rest i
-      | inr apart ↦ elim apart [
-        | inl less ↦ absurd (earlier e f es fs next down.1 less (same e.0))
-        | inr more ↦ absurd (earlier f e fs es next up.1 more (sym (same f.0)))
-      ]
-    ]
-  where
-    later : (y : ℕ) → e.0 ≡ f.0 → Ascend (e.0 + 1) (keys_of fs) next → lookup (is_at (nat_cmp y)) es ≡ lookup (is_at (nat_cmp y)) fs
-    later y number down_too =
-        elim (cases_eq y e.0) [
-          | inl here ↦
-              ap (λ k. lookup (is_at (nat_cmp k)) es) here ∙ lookup_none_below e.0 (e.0 + 1) es next up.1 (omega arith)
-              ∙ sym (ap (λ k. lookup (is_at (nat_cmp k)) fs) here ∙ lookup_none_below e.0 (e.0 + 1) fs next down_too (omega arith))
-          | inr other ↦
-              sym (cond-false _ _ _ (other_number y e.0 other)) ∙ same y ∙ cond-false _ _ _ (other_number y f.0 (λ s. other (s ∙ sym number)))
-        ]
 
 -- ---- the plain tree's removal
 

@@ -1,40 +1,19 @@
 -- Batches of entries that go, and rows of inodes after a batch.
-use Rattle.std.proofs.Common.{◌≡◌, ℕ, ◌-◌, List, [], ◌∷◌, ◌++◌, Bool, cond, Option, None, Some, refl, sym, ap, ◌∙◌, append_assoc}
-use Rattle.std.specs.Prelude.{◌==◌, option_map, unwrap_or}
-use Rattle.std.specs.Cmp.{nat_cmp_total}
+use Rattle.std.proofs.Common.{◌≡◌, ℕ, ◌-◌, List, [], ◌∷◌, ◌++◌, Bool, cond, Option, Some, sym, ap, ◌∙◌, append_assoc}
 use Rattle.s3_rows.specs.declared.change.Change.{Change}
 use Rattle.s3_rows.specs.declared.change.Change.TheVariants as changes
 use Rattle.s3_rows.specs.declared.row_id.RowId.TheVariants as ids
-use Rattle.s3_rows.specs.Batches.{after_change, tables_after}
-use Rattle.s3_rows.specs.Latest.{about, last_change}
+use Rattle.s3_rows.specs.Batches.{tables_after}
 use Rattle.s3_rows.specs.Rows.{Attr, Content, Inode, InodeBlock, Name, Target}
-use Rattle.s3_rows.specs.Selections.{inode_at, name_at, target_at}
-use Rattle.s3_rows.specs.Tables.{Tables, by_inode}
+use Rattle.s3_rows.specs.Selections.{name_at, target_at}
+use Rattle.s3_rows.specs.Tables.{Tables}
 use Rattle.row_lemmas.proofs.Tables.{tables_after-tables_after}
-use Rattle.row_lemmas.proofs.Tests.{eqb_comm, is_eq-nat_cmp}
 use Rattle.ref_counts.specs.Links.{places_dropped, places_from, places_of_gone}
 use Rattle.ref_counts.specs.Names.{lowered, lowered_at, lowered_of}
 use Rattle.ref_counts.specs.Removals.{attrs_dropped, attrs_of, removal, target_dropped}
-use Rattle.ref_counts.proofs.LastChanges.{read-kept, read-said, row_at-put_said, row_at-without_said}
 use Rattle.row_steps.specs.RowChanges.{counted_row, dropping}
 use Rattle.row_steps.proofs.WithPlaces.{name_at-places_of_gone}
-use Rattle.immutable_trees.specs.RemovedRows.{HasOwn, file_taken, folder_taken, inode_put, taking, uprooted}
-
--- ---- inodes by their ids
-
-inode_at-after_change : (id : ℕ) (c : Change) (t : Tables) → inode_at (after_change c t) id ≡ unwrap_or (option_map inode_put (about (ids.Inode id) c)) (inode_at t id)
-inode_at-after_change id (changes.PutInode r) t =
-    row_at-put_said by_inode nat_cmp_total inode_put (changes.PutInode r) (r.id == id) id r t.inodes (is_eq-nat_cmp id r.id ∙ eqb_comm id r.id) refl
-inode_at-after_change id (changes.DeleteInode x) t =
-    row_at-without_said by_inode nat_cmp_total inode_put (changes.DeleteInode x) (x == id) x id t.inodes (is_eq-nat_cmp x id) refl
-inode_at-after_change id _ t = refl
-
--- the row of an inode is what its last change puts
-pub inode_at-said : (id : ℕ) (cs : List Change) (t : Tables) (c : Change) → last_change (ids.Inode id) cs ≡ Some c → inode_put c ≡ inode_at (tables_after cs t) id
-inode_at-said id = read-said (λ t. inode_at t id) (ids.Inode id) inode_put (inode_at-after_change id)
-
-pub inode_at-kept : (id : ℕ) (cs : List Change) (t : Tables) → last_change (ids.Inode id) cs ≡ None → inode_at t id ≡ inode_at (tables_after cs t) id
-inode_at-kept id = read-kept (λ t. inode_at t id) (ids.Inode id) inode_put (inode_at-after_change id)
+use Rattle.immutable_trees.specs.RemovedRows.{HasOwn, file_taken, folder_taken, taking, uprooted}
 
 -- ---- what is told is what is there by now
 

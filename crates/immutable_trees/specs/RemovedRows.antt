@@ -1,6 +1,6 @@
 -- What goes of rows where a directory is removed with all below it: the entries below it one after the other, each directory once
 -- it is empty, and at last the directory's own entry.
-use Rattle.std.specs.Prelude.{◌≡◌, ℕ, ◌-◌, ◌==◌, List, [], ◌∷◌, ◌++◌, Bool, true, not, ◌||◌, nat_lt, IsTrue, Option, None, Some, if◌then◌else◌}
+use Rattle.std.specs.Prelude.{◌≡◌, ℕ, ◌-◌, ◌==◌, List, [], ◌∷◌, ◌++◌, Bool, true, not, ◌||◌, nat_lt, IsTrue, Some, if◌then◌else◌}
 use Rattle.std.specs.List.{list_all}
 use Rattle.plain_tree.specs.Below.{is_at_or_below}
 use Rattle.plain_tree.specs.Entries.{is_open}
@@ -69,11 +69,6 @@ uprooted now t directory top c n = dropping directory c n now ++ removal t top.i
 -- and that of the first directory at last
 abbrev pub uprooting : ℕ → Tables → List Gone → Inode → Inode → Content → Name → List Change
 uprooting now t gone directory top c n = all_taken now t gone ++ uprooted now (tables_after (all_taken now t gone) t) directory top c n
-
--- the inode that a change puts
-abbrev pub inode_put : Change → Option Inode
-inode_put (changes.PutInode r) = Some r
-inode_put _ = None
 
 -- what is an inode's own is in the told tables as it is by now
 pub record HasOwn (told t : Tables) (x : ℕ) : Type 0 where

@@ -19,11 +19,10 @@ ghost use Rattle.immutable_trees.specs.Removals.{FindsEntry};
 ghost use Rattle.immutable_trees.specs.RemovedRows.{HasOwn, uprooted};
 
 use crate::lock::with_done;
-use crate::taken::pending_inode;
 use crate::uproot::take_tree;
 use dir_ops::old_entry::{OldEntry, drop_entry, find_old_entry};
 use op_checks::check_directory;
-use ref_counts::{Handles, Plan, drop_file};
+use ref_counts::{Handles, Plan, drop_file, pending_inode};
 use s3_base::ByteList;
 use s3_rows::{Batch, Keeper, KeeperFault};
 use std::alloc::Global;

@@ -1,43 +1,17 @@
 //! What goes with an entry that goes.
-ghost use Rattle.std.specs.Prelude.{◌≡◌, ◌<◌, ◌^◌, ◌++◌, [], Some, if◌then◌else◌, IfOk, OnOk};
+ghost use Rattle.std.specs.Prelude.{◌≡◌, ◌<◌, ◌^◌, ◌++◌, [], Some, if◌then◌else◌, OnOk};
 ghost use Rattle.s3_base.specs.Faults.{HasCause};
 ghost use Rattle.s3_rows.specs.Batches.{tables_after};
 ghost use Rattle.s3_rows.specs.Rows.{Inode, IsId, Name};
-ghost use Rattle.s3_rows.specs.Selections.{inode_at, name_at};
+ghost use Rattle.s3_rows.specs.Selections.{name_at};
 ghost use Rattle.s3_rows.specs.Tables.{IsOrdered};
 ghost use Rattle.s3_rows.specs.Told.{IfTold, has_failed};
 ghost use Rattle.ref_counts.specs.Links.{places_dropped, places_from};
-ghost use Rattle.immutable_trees.specs.RemovedRows.{HasOwn, file_taken, folder_taken, inode_put, taking};
+ghost use Rattle.immutable_trees.specs.RemovedRows.{HasOwn, file_taken, folder_taken, taking};
 
 use dir_ops::old_link::drop_link;
 use ref_counts::{drop_file, drop_links, name_down};
-use s3_rows::{Batch, Change, ContentRow, InodeRow, Keeper, KeeperFault, RowId};
-
-/// The inode that a change puts.
-fn inode_put(change: &Change) -> Option<InodeRow>
-    ensures { result ≡ inode_put change.now }
-{
-    match change {
-        Change::PutInode(row) => Some(*row),
-        _ => None,
-    }
-}
-
-/// The row of an inode after the batch.
-pub(crate) fn pending_inode<K: Keeper>(
-    keeper: &mut K,
-    batch: &Batch,
-    id: u64,
-) -> Result<Option<InodeRow>, KeeperFault>
-    ensures row { IfOk result (λ r. IfTold (K.told keeper.old) (λ t. r ≡ inode_at (tables_after batch.now t) id)) }
-    ensures same { K.told keeper.new ≡ K.told keeper.old }
-    ensures cause { HasCause (K.faults keeper.old) (K.faults keeper.new) (has_failed result) }
-{
-    match batch.last(RowId::Inode(id)) {
-        Some(change) => Ok(inode_put(change)),
-        None => keeper.inode(id),
-    }
-}
+use s3_rows::{Batch, Change, ContentRow, InodeRow, Keeper, KeeperFault};
 
 /// Deletes an entry, and takes the use of its name away.
 fn take_entry<K: Keeper>(

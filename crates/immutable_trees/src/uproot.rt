@@ -9,10 +9,10 @@ ghost use Rattle.s3_rows.specs.Told.{IfTold, has_failed};
 ghost use Rattle.s3_rows.specs.Validity.{is_directory};
 ghost use Rattle.immutable_trees.specs.Branches.{CanRemove, HasTaken, TakesBelow, below_entry, first_branch, is_end, moved};
 
-use crate::taken::{pending_inode, take_file, take_folder};
+use crate::taken::{take_file, take_folder};
 use crate::walk::{Level, next_entry};
 use dir_ops::old_link::is_kept;
-use ref_counts::Handles;
+use ref_counts::{Handles, pending_inode};
 use s3_base::{ByteList, Kind};
 use s3_rows::{Batch, ContentRow, InodeRow, Keeper, KeeperFault, NamedEntry};
 use std::alloc::{AllocError, Global};

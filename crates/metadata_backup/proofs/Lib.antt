@@ -1,4 +1,4 @@
-mod Digits
+pub mod Digits
 mod GenerationLaws
 pub mod KeyNumbers
 mod ReplacingLaws

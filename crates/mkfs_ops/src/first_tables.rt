@@ -6,31 +6,9 @@ ghost use Rattle.mkfs_ops.specs.Making as making;
 ghost use Rattle.mkfs_ops.specs.Making.{AreSettings, parameters_done};
 
 use crate::Settings;
-use s3_base::{ByteList, Kind, Sequence};
-use s3_rows::{ContentRow, InodeRow, NameRow, Params, State, Tables};
+use s3_base::{ByteList, Sequence};
+use s3_rows::{ContentRow, InodeRow, NameRow, Params, State, Tables, made_directory};
 use std::alloc::{AllocError, Global};
-
-/// A directory that one entry names.
-fn directory(id: u64, mode: u16, now: u64) -> InodeRow
-    requires positive { 0 < id }
-    requires below { id < 2 ^ 62 }
-    requires mode { mode ≤ 4095 }
-    requires time { now < 2 ^ 62 }
-    ensures { result ≡ made_directory id mode now }
-{
-    InodeRow {
-        id,
-        kind: Kind::Directory,
-        mode,
-        uid: 0,
-        gid: 0,
-        mtime: now,
-        ctime: now,
-        refcount: 1,
-        size: 0,
-        locked: false,
-    }
-}
 
 /// The parameters, with the generation that is done.
 pub(crate) fn parameters(settings: Settings, last_done: u64) -> Params
@@ -58,8 +36,8 @@ fn first_inodes(alloc: Global, now: u64) -> Result<Sequence<InodeRow>, AllocErro
     ensures { IfOk result (λ rows. rows ≡ made_directory 1 493 now ∷ made_directory 2 448 now ∷ []) }
 {
     let mut rows = Sequence::new(alloc);
-    rows.push(directory(1, 0o755, now))?;
-    rows.push(directory(2, 0o700, now))?;
+    rows.push(made_directory(1, 0o755, now))?;
+    rows.push(made_directory(2, 0o700, now))?;
     Ok(rows)
 }
 

@@ -3,7 +3,6 @@ pub mod Begun
 pub mod BlockRoom
 pub mod Blocks
 pub mod Bounds
-pub mod Digits
 pub mod Frame
 pub mod Next
 pub mod Room

@@ -13,17 +13,17 @@ use Rattle.s3_rows.specs.declared.row_id.RowId.{RowId}
 use Rattle.s3_rows.specs.declared.row_id.RowId.TheVariants as ids
 use Rattle.s3_rows.specs.Rows.{Name}
 use Rattle.s3_rows.specs.Keyed.{Order, has_key, pair_cmp, put, row_at, without}
-use Rattle.s3_rows.specs.Tables.{Tables, IsOrdered, by_name, by_spot, by_block, by_object}
+use Rattle.s3_rows.specs.Tables.{Tables, IsOrdered, by_inode, by_name, by_spot, by_block, by_object}
 use Rattle.s3_rows.specs.Batches.{after_change, tables_after}
 use Rattle.s3_rows.specs.Latest.{about, last_change, id_named, last_named}
-use Rattle.s3_rows.specs.Selections.{name_at, name_of_bytes, inode_block_at, block_at, object_at}
+use Rattle.s3_rows.specs.Selections.{inode_at, name_at, name_of_bytes, inode_block_at, block_at, object_at}
 use Rattle.row_lemmas.proofs.Tests.{eqb_comm, is_eq-nat_cmp, false_from_not, find_passes, list_all_from_find}
 use Rattle.row_lemmas.proofs.Tables.{IsOrdered-after_change, IsOrdered-tables_after, pair_cmp_total}
 use Rattle.row_lemmas.proofs.Keyed.Put.{row_at-put}
 use Rattle.row_lemmas.proofs.Keyed.RowAt.{row_at_from_find, row_at_passes}
 use Rattle.row_lemmas.proofs.Keyed.Without.{row_at-without}
 use Rattle.ref_counts.specs.Names.{StaysUnique}
-use Rattle.ref_counts.specs.Pending.{name_put, link_put, block_put, object_put, params_set, with_bytes}
+use Rattle.ref_counts.specs.Pending.{inode_put, name_put, link_put, block_put, object_put, params_set, with_bytes}
 use Rattle.ref_counts.proofs.Named.{has_bytes, put_found, delete_found, unique_now}
 use Rattle.ref_counts.proofs.Overlay.{kept}
 
@@ -82,6 +82,22 @@ module _ {K R : Type 0} (o : Order K R) (total : IsTotalOrder o.compare)
       row_at-without o total j k rows
       ∙ (λ i. cond (tests i) (sym gone i) (row_at o k rows))
       ∙ by_cond says c same (row_at o k rows)
+
+-- ---- inodes by their ids
+
+inode-after_change : (id : ℕ) (c : Change) (t : Tables) → inode_at (after_change c t) id ≡ unwrap_or (option_map inode_put (about (ids.Inode id) c)) (inode_at t id)
+inode-after_change id (changes.PutInode r) t =
+    row_at-put_said by_inode nat_cmp_total inode_put (changes.PutInode r) (r.id == id) id r t.inodes (is_eq-nat_cmp id r.id ∙ eqb_comm id r.id) refl
+inode-after_change id (changes.DeleteInode x) t =
+    row_at-without_said by_inode nat_cmp_total inode_put (changes.DeleteInode x) (x == id) x id t.inodes (is_eq-nat_cmp x id) refl
+inode-after_change id _ t = refl
+
+-- the row of an inode is what its last change puts
+pub inode-said : (id : ℕ) (cs : List Change) (t : Tables) (c : Change) → last_change (ids.Inode id) cs ≡ Some c → inode_put c ≡ inode_at (tables_after cs t) id
+inode-said id = read-said (λ t. inode_at t id) (ids.Inode id) inode_put (inode-after_change id)
+
+pub inode-kept : (id : ℕ) (cs : List Change) (t : Tables) → last_change (ids.Inode id) cs ≡ None → inode_at t id ≡ inode_at (tables_after cs t) id
+inode-kept id = read-kept (λ t. inode_at t id) (ids.Inode id) inode_put (inode-after_change id)
 
 -- ---- names by their ids
 

@@ -27,11 +27,15 @@ page_found p (x ∷ xs) = by_case (page_found p xs) (p x)
     by_case others true = refl
     by_case others false = others
 
--- the number of the first row of a page
+-- the first row of a page
+pub found_row : (t : Tables) (inode from : ℕ) (page : List InodeBlock) (found : Option InodeBlock) → page ≡ inode_blocks_listed t inode from 1
+    → found ≡ slice_get page 0 → found ≡ find (is_place_from inode from) t.inode_blocks
+found_row t inode from page found is first = first ∙ ap (λ (l : List InodeBlock). slice_get l 0) is ∙ page_found (is_place_from inode from) t.inode_blocks
+
+-- its number
 pub found_place : (t : Tables) (inode from : ℕ) (page : List InodeBlock) (found : Option InodeBlock) → page ≡ inode_blocks_listed t inode from 1
     → found ≡ slice_get page 0 → option_map (λ r. r.blockno) found ≡ next_place t inode from
-found_place t inode from page found is first =
-    ap (option_map (λ (r : InodeBlock). r.blockno)) (first ∙ ap (λ (l : List InodeBlock). slice_get l 0) is ∙ page_found (is_place_from inode from) t.inode_blocks)
+found_place t inode from page found is first = ap (option_map (λ (r : InodeBlock). r.blockno)) (found_row t inode from page found is first)
 
 -- ---- the first place, and those behind it
 
@@ -79,7 +83,7 @@ itself_is_not_behind inode r =
     by_case true short = short
     by_case false short = refl
 
-places_first : (inode from : ℕ) (rows : List InodeBlock) (r : InodeBlock) → IsTrue (rises by_spot rows) → find (is_place_from inode from) rows ≡ Some r
+pub places_first : (inode from : ℕ) (rows : List InodeBlock) (r : InodeBlock) → IsTrue (rises by_spot rows) → find (is_place_from inode from) rows ≡ Some r
     → filter (is_place_from inode from) rows ≡ r ∷ filter (is_place_from inode (r.blockno + 1)) rows
 places_first inode from [] r up is = absurd (cc is)
 places_first inode from (x ∷ xs) r up is = by_case (places_first inode from xs r (rises_tail by_spot x xs up)) (is_place_from inode from x) refl is
@@ -102,6 +106,15 @@ places_first inode from (x ∷ xs) r up is = by_case (places_first inode from xs
         let past : IsTrue (is_past by_spot (x.inode, x.blockno) r) = find_passes_all (is_place_from inode from) (is_past by_spot (x.inode, x.blockno)) xs r later found in
         others found
         ∙ ap (λ ys. r ∷ ys) (sym (ap (λ b. cond b (x ∷ rest) rest) (before_is_not_behind inode from x r (find_passes (is_place_from inode from) xs r found) past)))
+
+pub places_none : (inode from : ℕ) (rows : List InodeBlock) → find (is_place_from inode from) rows ≡ None → filter (is_place_from inode from) rows ≡ []
+places_none inode from [] none = refl
+places_none inode from (x ∷ xs) none = by_case (places_none inode from xs) (is_place_from inode from x) none
+  where
+    by_case : (find (is_place_from inode from) xs ≡ None → filter (is_place_from inode from) xs ≡ []) → (b : Bool) → cond b (Some x) (find (is_place_from inode from) xs) ≡ None
+        → cond b (x ∷ filter (is_place_from inode from) xs) (filter (is_place_from inode from) xs) ≡ []
+    by_case rest true is = absurd (cc is)
+    by_case rest false is = rest is
 
 -- ---- what is added
 
@@ -133,18 +146,13 @@ pub all_dropped : (t : Tables) (batch first : List Change) (inode from next : �
     → batch ≡ first ++ places_dropped (places_from t inode from) (tables_after first t)
 all_dropped t batch first inode from next found is here left =
     sym (append-nil batch)
-    ∙ ap (λ (rows : List InodeBlock). batch ++ places_dropped rows (tables_after batch t)) (sym (none_left t.inode_blocks (sym is ∙ here)))
+    ∙ ap (λ (rows : List InodeBlock). batch ++ places_dropped rows (tables_after batch t))
+    (sym (places_none inode next t.inode_blocks (none_found (find (is_place_from inode next) t.inode_blocks) (sym is ∙ here))))
     ∙ left
   where
-    none_left : (rows : List InodeBlock) → option_map (λ (r : InodeBlock). r.blockno) (find (is_place_from inode next) rows) ≡ None → filter (is_place_from inode next) rows ≡ []
-    none_left [] none = refl
-    none_left (x ∷ xs) none = by_case (none_left xs) (is_place_from inode next x) none
-      where
-        by_case : (option_map (λ (r : InodeBlock). r.blockno) (find (is_place_from inode next) xs) ≡ None → filter (is_place_from inode next) xs ≡ []) → (b : Bool)
-            → option_map (λ (r : InodeBlock). r.blockno) (cond b (Some x) (find (is_place_from inode next) xs)) ≡ None
-            → cond b (x ∷ filter (is_place_from inode next) xs) (filter (is_place_from inode next) xs) ≡ []
-        by_case others true there = absurd (cc there)
-        by_case others false there = others there
+    none_found : (row : Option InodeBlock) → None ≡ option_map (λ (r : InodeBlock). r.blockno) row → row ≡ None
+    none_found None none = refl
+    none_found (Some r) none = absurd (cc none)
 
 -- places that go behind others
 pub places_dropped-append : (xs ys : List InodeBlock) (t : Tables) → places_dropped (xs ++ ys) t ≡ places_dropped xs t ++ places_dropped ys (tables_after (places_dropped xs t) t)

@@ -3,8 +3,13 @@ use Rattle.std.specs.Prelude.{ℕ, List, Option, None, Some, if◌then◌else◌
 use Rattle.std.specs.Ordering.{is_eq}
 use Rattle.s3_rows.specs.declared.change.Change.{Change}
 use Rattle.s3_rows.specs.declared.change.Change.TheVariants as changes
-use Rattle.s3_rows.specs.Rows.{Name, InodeBlock, Block, Object, Parameters}
+use Rattle.s3_rows.specs.Rows.{Inode, Name, InodeBlock, Block, Object, Parameters}
 use Rattle.s3_rows.specs.Selections.{bytes_cmp}
+
+-- the inode that a change puts
+abbrev pub inode_put : Change → Option Inode
+inode_put (changes.PutInode r) = Some r
+inode_put _ = None
 
 -- the name that a change puts
 abbrev pub name_put : Change → Option Name

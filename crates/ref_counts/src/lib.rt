@@ -18,6 +18,7 @@ pub use handles::{Handle, Handles};
 pub use links::{count_block, relink};
 pub use lowered::name_down;
 pub use names::name_up;
+pub use pending::pending_inode;
 pub use places::{drop_gone_links, drop_links};
 pub use plan::{Plan, answer};
 pub use removal::drop_file;

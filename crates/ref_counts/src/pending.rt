@@ -5,17 +5,27 @@ ghost use Rattle.s3_base.specs.Faults.{HasCause};
 ghost use Rattle.s3_rows.specs.Tables.{IsOrdered};
 ghost use Rattle.s3_rows.specs.Batches.{tables_after};
 ghost use Rattle.s3_rows.specs.Latest.{last_named};
-ghost use Rattle.s3_rows.specs.Selections.{name_at, name_of_bytes, inode_block_at, block_at, object_at};
+ghost use Rattle.s3_rows.specs.Selections.{inode_at, name_at, name_of_bytes, inode_block_at, block_at, object_at};
 ghost use Rattle.s3_rows.specs.Told.{IfTold, has_failed};
 ghost use Rattle.ref_counts.specs.Names.{StaysUnique};
-ghost use Rattle.ref_counts.specs.Pending.{name_put, link_put, block_put, object_put, params_set, with_bytes};
+ghost use Rattle.ref_counts.specs.Pending.{inode_put, name_put, link_put, block_put, object_put, params_set, with_bytes};
 
 use s3_base::ByteList;
 use s3_rows::{
-    Batch, BlockRow, Change, InodeBlockRow, Keeper, KeeperFault, NameRow, ObjectRow, Params, RowId,
+    Batch, BlockRow, Change, InodeBlockRow, InodeRow, Keeper, KeeperFault, NameRow, ObjectRow, Params, RowId,
     Spot,
 };
 use std::alloc::AllocError;
+
+/// The inode that a change puts.
+fn inode_put(change: &Change) -> Option<InodeRow>
+    ensures { result ≡ inode_put change.now }
+{
+    match change {
+        Change::PutInode(row) => Some(*row),
+        _ => None,
+    }
+}
 
 /// The name that a change puts.
 fn name_put(change: &Change) -> Result<Option<NameRow>, AllocError>
@@ -144,6 +154,22 @@ pub(crate) fn pending_params<K: Keeper>(
     match batch.last(RowId::Params) {
         Some(change) => Ok(params_set(change)),
         None => keeper.params(),
+    }
+}
+
+/// The row of an inode after the batch.
+pub fn pending_inode<K: Keeper>(
+    keeper: &mut K,
+    batch: &Batch,
+    id: u64,
+) -> Result<Option<InodeRow>, KeeperFault>
+    ensures row { IfOk result (λ r. IfTold (K.told keeper.old) (λ t. r ≡ inode_at (tables_after batch.now t) id)) }
+    ensures same { K.told keeper.new ≡ K.told keeper.old }
+    ensures cause { HasCause (K.faults keeper.old) (K.faults keeper.new) (has_failed result) }
+{
+    match batch.last(RowId::Inode(id)) {
+        Some(change) => Ok(inode_put(change)),
+        None => keeper.inode(id),
     }
 }
 

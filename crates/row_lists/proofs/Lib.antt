@@ -1,5 +1,3 @@
 pub mod ListingLeast
 pub mod ListingOrder
 pub mod ListingPages
-pub mod ListingPut
-pub mod ListingRuns

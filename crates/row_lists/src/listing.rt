@@ -7,11 +7,11 @@ ghost use Rattle.s3_rows.specs.Selections.{free_objects_listed, inode_blocks_lis
 ghost use Rattle.s3_rows.specs.Told.{by_number, is_page, is_run_of, is_run_of_slots};
 
 mod holder;
-mod named;
+mod names;
 mod pages;
 
 pub use holder::holder_of_inode;
-pub use named::{NameTable, attrs_of, entries_of};
+pub use names::NameTable;
 pub use pages::{
     page_of_attrs, page_of_blocks, page_of_contents, page_of_inode_blocks, page_of_inodes,
     page_of_names, page_of_objects, page_of_slots, page_of_targets,

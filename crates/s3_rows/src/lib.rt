@@ -30,7 +30,7 @@ pub use laws::{forsaken_objects_are_not_clean, made_tables_are_clean, rings_are_
 pub use lists::{
     EntryList, InodeBlockList, NamedAttr, NamedAttrList, NamedEntry, SlotList, Spot, SpotList,
 };
-pub use made::made_batch;
+pub use made::{made_batch, made_directory};
 pub use name_rows::{AttrRow, ContentRow, NameRow, TargetRow};
 pub use params::{Params, State};
 pub use row_id::RowId;

@@ -8,7 +8,8 @@ use crate::{Batch, Change, ContentRow, InodeRow, NameRow, Params, State};
 use s3_base::{ByteList, Kind};
 use std::alloc::{AllocError, Global};
 
-fn directory(id: u64, mode: u16, now: u64) -> InodeRow
+/// A directory of the user and the group 0 that one entry names.
+pub fn made_directory(id: u64, mode: u16, now: u64) -> InodeRow
     requires positive { 0 < id }
     requires below { id < 2 ^ 62 }
     requires mode { mode ≤ 4095 }
@@ -61,8 +62,8 @@ pub fn made_batch(alloc: Global, block_size: u32, slots: u32, now: u64) -> Resul
     ensures { IfOk result (λ b. tables_after b no_tables ≡ made_tables block_size slots now) }
 {
     let mut batch = Batch::new(alloc);
-    batch.push(Change::PutInode(directory(1, 0o755, now)))?;
-    batch.push(Change::PutInode(directory(2, 0o700, now)))?;
+    batch.push(Change::PutInode(made_directory(1, 0o755, now)))?;
+    batch.push(Change::PutInode(made_directory(2, 0o700, now)))?;
     batch.push(Change::PutName(NameRow {
         id: 1,
         refcount: 1,

@@ -20,11 +20,11 @@ pub mod NameTotals
 pub mod NameUses
 pub mod NewCopies
 pub mod NextAttrs
-pub mod NextPlaces
 pub mod NextRows
 pub mod NextVisits
 pub mod PartialSteps
 pub mod SameCounts
+pub mod PlacesInTurn
 pub mod PlannedCopy
 pub mod SameEntries
 pub mod SourceBatch

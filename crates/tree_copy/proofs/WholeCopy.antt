@@ -19,7 +19,8 @@ use Rattle.tree_laws.proofs.Node.Kind.{entry_in}
 use Rattle.tree_laws.proofs.Node.Reading.{node_at-change_node_other, node_at-change_node_same, node_at_none_next}
 use Rattle.tree_copy.specs.PartialCopies.{HasCopy, IsContentOf, IsPartial, begun}
 use Rattle.tree_copy.proofs.PartialSteps.{KeepsNumbers, KeepsNumbers-change_node}
-use Rattle.tree_copy.proofs.SameEntries.{same_entries, same_nodes}
+use Rattle.tree_laws.proofs.Node.Same.{same_nodes}
+use Rattle.tree_copy.proofs.SameEntries.{same_entries}
 
 content_same : (next : ℕ) (order : List ℕ) (old content : Content) → IsContentOf old content → Rise (keys_of (entries_of content)) → Rise (keys_of (entries_of old))
     → ((m : List ℕ) → entry_of content m ≡ option_map (copy_number next order) (entry_of old m)) → content ≡ copied_content next order old

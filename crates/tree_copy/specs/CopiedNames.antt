@@ -24,11 +24,6 @@ abbrev pub may_draw : Option Parameters → Bool
 may_draw None = false
 may_draw (Some p) = may_draw_from p
 
--- the inode that a change puts
-abbrev pub inode_put : Change → Option Inode
-inode_put (changes.PutInode r) = Some r
-inode_put _ = None
-
 -- an inode may count one entry more
 abbrev pub may_link_to : Inode → Bool
 may_link_to r = nat_lt (r.refcount + 1) (2 ^ 62)

@@ -8,12 +8,13 @@ ghost use Rattle.s3_rows.specs.Selections.{inode_at};
 ghost use Rattle.s3_rows.specs.Tables.{IsOrdered};
 ghost use Rattle.s3_rows.specs.Told.{IfTold, has_failed};
 ghost use Rattle.ref_counts.specs.Names.{StaysUnique};
-ghost use Rattle.tree_copy.specs.CopiedNames.{AreAttrNames, child_may_come, entry_may_come, inode_put, may_link, may_link_to, with_entry};
+ghost use Rattle.tree_copy.specs.CopiedNames.{AreAttrNames, child_may_come, entry_may_come, may_link, may_link_to, with_entry};
 ghost use Rattle.tree_copy.specs.CopiedRows.{child_copied, link_counted};
 
 use crate::rows::{copy_entry, copy_node};
+use ref_counts::pending_inode;
 use s3_base::{ByteList, LIMIT};
-use s3_rows::{Batch, Change, InodeRow, Keeper, KeeperFault, RowId};
+use s3_rows::{Batch, Change, InodeRow, Keeper, KeeperFault};
 use std::alloc::{AllocError, Global};
 
 /// Where the copy of an entry comes: the copy of its directory, the number of the copy of what it names, whether that came before,
@@ -24,32 +25,6 @@ pub struct CopySpot {
     pub copy: u64,
     pub again: bool,
     pub now: u64,
-}
-
-/// The inode that a change puts.
-fn inode_put(change: &Change) -> Option<InodeRow>
-    ensures { result ≡ inode_put change.now }
-{
-    match change {
-        Change::PutInode(row) => Some(*row),
-        _ => None,
-    }
-}
-
-/// The row of an inode after the batch.
-fn pending_inode<K: Keeper>(
-    keeper: &mut K,
-    batch: &Batch,
-    id: u64,
-) -> Result<Option<InodeRow>, KeeperFault>
-    ensures row { IfOk result (λ r. IfTold (K.told keeper.old) (λ t. r ≡ inode_at (tables_after batch.now t) id)) }
-    ensures same { K.told keeper.new ≡ K.told keeper.old }
-    ensures cause { HasCause (K.faults keeper.old) (K.faults keeper.new) (has_failed result) }
-{
-    match batch.last(RowId::Inode(id)) {
-        Some(change) => Ok(inode_put(change)),
-        None => keeper.inode(id),
-    }
 }
 
 /// Adds the change by which one entry more names the inode. False where its count is at its end; nothing is added then.

@@ -8,5 +8,6 @@ pub mod Limits
 pub mod Mode
 pub mod Order
 pub mod Reading
+pub mod Same
 pub mod Subtree
 pub mod Swap

@@ -6,7 +6,7 @@ ghost use Rattle.s3_rows.specs.Tables.{Tables, by_name};
 ghost use Rattle.s3_rows.specs.Selections.{holder_of};
 ghost use Rattle.row_lists.specs.Listing.{by_place, lesser};
 
-use crate::listing::named::NameTable;
+use crate::listing::names::NameTable;
 use s3_rows::ContentRow;
 use std::cmp::Ordering;
 

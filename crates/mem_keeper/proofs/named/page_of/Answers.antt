@@ -6,7 +6,7 @@ use Rattle.std.proofs.lemmas.List.Elements.{recursion_from_All}
 use Rattle.s3_rows.specs.Keyed.{rows_past, sorted_by}
 use Rattle.s3_rows.specs.Told.{has_short_name, is_page}
 use Rattle.row_lists.specs.Listing.{by_bytes, with_name}
-use Rattle.row_lists.proofs.ListingPut.{least-paged}
+use Rattle.row_lists.proofs.ListingLeast.{least-paged}
 use Rattle.mem_keeper.specs.Table.{rows_of}
 use Rattle.mem_keeper.proofs.Found.{no_own, take_none}
 use Rattle.mem_keeper.proofs.named.page_of.Goals as goal

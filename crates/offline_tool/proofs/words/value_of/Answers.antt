@@ -1,4 +1,4 @@
-use Rattle.offline_tool.proofs.Digits.{one_more}
+use Rattle.metadata_backup.proofs.Digits.{one_more}
 use Rattle.offline_tool.proofs.words.value_of.Goals as goal
 
 pub loop-digit-preserved : goal.loop-digit-preserved

@@ -1,7 +1,7 @@
 use Rattle.std.proofs.Common.{◌+◌, sym, ◌∙◌, subst, arith}
 use Rattle.s3_rows.specs.Rows.{InodeBlock}
 use Rattle.ref_counts.proofs.Told.{IfTold-weaker2, IfTold-weaker3, IfTold-weaker4, IfTold-same}
-use Rattle.tree_copy.proofs.NextPlaces.{IsLeft, left_more, left_none, left_worn}
+use Rattle.tree_copy.proofs.PlacesInTurn.{IsLeft, left_more, left_none, left_worn}
 use Rattle.tree_copy.proofs.places.copy_places.Goals as goal
 
 pub returns-in_default-clause-fits : goal.returns-in_default-clause-fits

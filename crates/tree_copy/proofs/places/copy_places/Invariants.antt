@@ -1,7 +1,7 @@
 use Rattle.std.proofs.Common.{◌≡◌, ◌≤◌, ◌-◌, ◌^◌}
 use Rattle.s3_rows.specs.Tables.{IsOrdered}
 use Rattle.s3_rows.specs.Told.{IfTold}
-use Rattle.tree_copy.proofs.NextPlaces.{IsLeft}
+use Rattle.tree_copy.proofs.PlacesInTurn.{IsLeft}
 use Rattle.tree_copy.proofs.places.copy_places.Given as goal
 
 -- the places from the next on are left
