@@ -10,12 +10,12 @@ use Rattle.plain_tree.specs.Tree.{Tree}
 use Rattle.plain_tree.specs.Operations.{reply_to}
 
 -- the codes of the operations that are built: Lookup, Getattr, Chmod, Chown, Utimes, Truncate, Mkdir, Create, Unlink, Rmdir, Rename,
--- Link, Symlink, Readlink, Open, Release, Read, Write, Fsync, Readdir, Statfs, the four on extended attributes, LockTree, RemoveTree,
--- and Leave
+-- Link, Symlink, Readlink, Open, Release, Read, Write, Fsync, Readdir, Statfs, the four on extended attributes, CopyTree, LockTree,
+-- RemoveTree, and Leave
 abbrev pub is_built_code : ℕ → Bool
 is_built_code code =
     list_any (λ built. built == code)
-    (1 ∷ 2 ∷ 3 ∷ 4 ∷ 5 ∷ 6 ∷ 7 ∷ 8 ∷ 9 ∷ 10 ∷ 11 ∷ 12 ∷ 13 ∷ 14 ∷ 15 ∷ 16 ∷ 17 ∷ 18 ∷ 19 ∷ 20 ∷ 21 ∷ 22 ∷ 23 ∷ 24 ∷ 25 ∷ 27 ∷ 28 ∷ 32 ∷ [])
+    (1 ∷ 2 ∷ 3 ∷ 4 ∷ 5 ∷ 6 ∷ 7 ∷ 8 ∷ 9 ∷ 10 ∷ 11 ∷ 12 ∷ 13 ∷ 14 ∷ 15 ∷ 16 ∷ 17 ∷ 18 ∷ 19 ∷ 20 ∷ 21 ∷ 22 ∷ 23 ∷ 24 ∷ 25 ∷ 26 ∷ 27 ∷ 28 ∷ 32 ∷ [])
 
 abbrev pub is_built : Op → Bool
 is_built op = is_built_code (op_code op)

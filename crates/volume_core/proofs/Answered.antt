@@ -12,6 +12,7 @@ use Rattle.plain_tree.specs.Calls.{leaves_tree, no_memory, tree_after_reply}
 use Rattle.plain_tree.specs.Checks.{first_failure}
 use Rattle.plain_tree.specs.Classes.{keeps_rows, names_drawn}
 use Rattle.plain_tree.specs.Operations.{checks, effect, success, reply_to, tree_after}
+use Rattle.tree_laws.specs.Files.{copies_files}
 use Rattle.s3_rows.specs.declared.digest.Digest.{Digest}
 use Rattle.s3_rows.specs.Tables.{Tables}
 use Rattle.s3_rows.specs.Told.{Told, IfTold}
@@ -51,7 +52,7 @@ length_same : (reply given : Reply) → given ≡ reply → HasLength reply give
 length_same (replies.Bytes bytes) given same = (bytes, same, refl)
 length_same _ given same = same
 
-like_same : (op : Op) (reply given : Reply) → given ≡ reply → IsLike op reply given
+pub like_same : (op : Op) (reply given : Reply) → given ≡ reply → IsLike op reply given
 like_same (ops.Read handle offset count) reply given same = length_same reply given same
 like_same _ reply given same = same
 
@@ -140,7 +141,7 @@ module _ {K : Type 0} (told : K → Option Told) (before after : RowCore K) (dig
           stands = subst (StandsFor told after) (sym next) o.stays.stands;
           answer = inl (
             subst (λ r. IsLike op r reply) (sym own) o.like,
-            subst (λ b. IsToldAfter b (writes_blocks op) (names_drawn whole op) (told before.keeper) (told after.keeper)) (sym (by_rules (is_built op) refl built None o.passes)) o.tells,
+            subst (λ b. IsToldAfter b (writes_blocks op) (copies_files op) (names_drawn whole op) (told before.keeper) (told after.keeper)) (sym (by_rules (is_built op) refl built None o.passes)) o.tells,
             λ _ lacks. o.unworn lacks.1,
             λ _ _. o.room,
           );
@@ -167,7 +168,7 @@ module _ {K : Type 0} (told : K → Option Told) (before after : RowCore K) (dig
     refused errno o =
         left (replies.Errno errno) refl refl o.1.stays (inl (
           like_same op (core_reply whole call) (replies.Errno errno) (sym (reply_is (Some errno.0) o.0)),
-          subst (λ b. IsToldAfter b (writes_blocks op) (names_drawn whole op) (told before.keeper) (told after.keeper)) (sym (by_rules (is_built op) refl built (Some errno.0) o.0)) o.1.same,
+          subst (λ b. IsToldAfter b (writes_blocks op) (copies_files op) (names_drawn whole op) (told before.keeper) (told after.keeper)) (sym (by_rules (is_built op) refl built (Some errno.0) o.0)) o.1.same,
           λ _ lacks.
               let clash : Some errno.0 ≡ None = sym o.0 ∙ lacks.0 in
               cc clash,
@@ -208,7 +209,7 @@ module _ {K : Type 0} (told : K → Option Told) (before after : RowCore K) (dig
           stands = subst (λ (c : RowCore K). StandsFor told c whole) (sym same) s;
           answer = inl (
             like_same op (core_reply whole call) (replies.Errno (record { 0 = 38 })) (sym (ap (λ b. cond b (reply_to whole pass op now) not_built) unbuilt)),
-            subst (λ b. IsToldAfter b (writes_blocks op) (names_drawn whole op) (told before.keeper) (told after.keeper)) (sym (ap (λ b. b && not (is_some (first_failure (checks whole pass op))) && not (keeps_rows whole pass op)) unbuilt)) still_told,
+            subst (λ b. IsToldAfter b (writes_blocks op) (copies_files op) (names_drawn whole op) (told before.keeper) (told after.keeper)) (sym (ap (λ b. b && not (is_some (first_failure (checks whole pass op))) && not (keeps_rows whole pass op)) unbuilt)) still_told,
             λ built _.
                 let clash : IsTrue false = subst IsTrue unbuilt built in
                 cc clash,

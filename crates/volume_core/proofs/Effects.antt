@@ -20,11 +20,12 @@ use Rattle.plain_tree.specs.Checks.{first_failure, node_check, file_check, hand_
 use Rattle.plain_tree.specs.Entries.{entry_at, add_entry, drop_entry, lives, unnamed}
 use Rattle.plain_tree.specs.Files.{inode_of}
 use Rattle.plain_tree.specs.Operations.{checks, effect, success, attr_reply, new_directory, new_file, make_checks, new_link}
-use Rattle.plain_tree.specs.Subtrees.{dropped, is_same, moved_entry, without_tree}
+use Rattle.plain_tree.specs.Below.{at_and_below}
+use Rattle.plain_tree.specs.Subtrees.{copies, dropped, is_same, moved_entry, without_tree}
 use Rattle.plain_tree.specs.Pages.{attribute_page, directory_page, with_attribute, without_attribute}
 use Rattle.ref_counts.specs.Handles.{OpenHandles, HasHandles, opened, closed, closed_all}
-use Rattle.volume_core.specs.Causes.{writes_blocks}
-use Rattle.volume_core.specs.Refusals.{IsLike}
+use Rattle.s3_rows.specs.Tables.{Tables}
+use Rattle.volume_core.specs.Causes.{IsWornCopy, writes_blocks}
 use Rattle.volume_core.specs.Plans.{is_by_plan, inode_opened, opened_by, closed_by}
 use Rattle.volume_core.proofs.ChangedNodes.{next_handle_kept, handles_kept}
 
@@ -48,10 +49,10 @@ writes_nothing (ops.Truncate inode size) planned = absurd (no_bytes (ops.Truncat
 writes_nothing (ops.Write handle offset bytes) planned = absurd (no_bytes (ops.Write handle offset bytes) planned refl)
 writes_nothing _ planned = refl
 
--- and reads none
-pub same_like : (op : Op) → IsTrue (is_by_plan op) → (reply given : Reply) → given ≡ reply → IsLike op reply given
-same_like (ops.Read handle offset count) planned reply given same = absurd (no_bytes (ops.Read handle offset count) planned refl)
-same_like _ planned reply given same = same
+-- and needs no count that a copy does
+pub no_worn_copy : (op : Op) → IsTrue (is_by_plan op) → (t : Tables) (whole : Tree) (now : ℕ) → IsWornCopy t whole op now → ⊥
+no_worn_copy (ops.CopyTree source parent name) planned t whole now worn = cc planned
+no_worn_copy _ planned t whole now worn = worn
 
 -- ---- changes of a node leave the handles
 
@@ -86,6 +87,13 @@ move_handles h parent name new_parent new_name now (Some inode) whole has false 
 uproot_handles : (h : OpenHandles) (parent : ℕ) (name : List ℕ) (now : ℕ) (inode : Option ℕ) (whole : Tree) → HasHandles h whole → HasHandles h (without_tree parent name now inode whole)
 uproot_handles h parent name now None whole has = has
 uproot_handles h parent name now (Some inode) whole has = own_handles (λ node. touched now (record node { content = unnamed name node.content })) parent whole h has
+
+-- and so does one that is copied
+pub copy_handles : (h : OpenHandles) (whole : Tree) (pass source parent : ℕ) (name : List ℕ) (now : ℕ) → HasHandles h whole → HasHandles h (effect whole pass (ops.CopyTree source parent name) now)
+copy_handles h whole pass source parent name now has =
+    let order : List ℕ = at_and_below whole source in
+    own_handles (λ node. touched now (record node { content = named name whole.next_inode node.content })) parent
+    (record whole { next_inode = whole.next_inode + length order; nodes = whole.nodes ++ copies whole order now order }) h (has.0, has.1)
 
 -- ---- a new file
 

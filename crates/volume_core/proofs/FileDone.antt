@@ -119,7 +119,7 @@ module _ {K : Type 0} (told : K → Option Told) (before after : RowCore K) (dig
           turns exactly fact is (λ y same. subst (λ z. Becomes (λ o now. Unit {0}) z later) same tells);
     }
 
-  pub file_told : AreFewTold (told before.keeper) (told after.keeper) → IsToldAfter true true 0 (told before.keeper) (told after.keeper)
+  pub file_told : AreFewTold (told before.keeper) (told after.keeper) → IsToldAfter true true false 0 (told before.keeper) (told after.keeper)
   file_told = is_told told before after whole s drawn_laws laws r size now g there kind long middle batch prepared step committed handles
 
   pub file_reply : r.refcount < 2 ^ 62 → attr_reply next_tree r.id ≡ replies.Attr (attr_of_row (with_length size now r))

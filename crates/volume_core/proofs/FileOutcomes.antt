@@ -1,6 +1,6 @@
 -- Operations on the bytes of one file: how they end.
-use Rattle.std.proofs.Common.{◌≡◌, ◌-◌, ℕ, min, List, [], length, drop, Option, None, Some, Result, Ok, Err, refl, sym, ap, ◌∙◌, subst}
-use Rattle.std.specs.Prelude.{unwrap_or}
+use Rattle.std.proofs.Common.{◌≡◌, ◌-◌, ℕ, min, List, [], length, drop, Option, None, Some, Result, Ok, Err, refl, sym, ap, ◌∙◌, subst, ⊎_elim}
+use Rattle.std.specs.Prelude.{◌⊎◌, unwrap_or}
 use Rattle.std.proofs.lemmas.List.{length-drop, length-take}
 use Rattle.s3_base.specs.declared.errors.Errno.{Errno}
 use Rattle.op_frames.specs.declared.operation.Op.{Op}
@@ -21,7 +21,6 @@ use Rattle.file_ops.specs.declared.file_fault.FileFault.{FileFault}
 use Rattle.file_ops.specs.declared.file_fault.FileFault.TheVariants as faults
 use Rattle.file_ops.specs.FileBytes.{IfFile, IsFile}
 use Rattle.file_ops.specs.FileFaults.{IsLossAmong}
-use Rattle.ref_counts.specs.Plans.{IsWorn}
 use Rattle.volume_core.specs.declared.refusal.Refusal.{Refusal}
 use Rattle.volume_core.specs.declared.refusal.Refusal.TheVariants.{Refused, Worn, Keeper, Link, Lost, Memory}
 use Rattle.volume_core.specs.declared.row_core.RowCore.{RowCore}
@@ -90,6 +89,10 @@ same_loss digest_of tables objects inode other numbers those fault same alike lo
 pub length_is : (whole : Tree) (x n : ℕ) (bytes : List ℕ) → file_at whole x ≡ Some bytes → length bytes ≡ n → length_of_file whole x ≡ n
 length_is whole x n bytes file long = ap (λ (f : Option (List ℕ)). elim f as (λ _. ℕ) [ Some own ↦ length own | None ↦ 0 ]) file ∙ long
 
+-- what needs no count or id lacks none
+pub none_worn : (x : Option Told) (s : Told) → x ≡ Some s → IfTold x (λ t. ⊥ ⊎ ⊥) → ⊥
+none_worn x s is worn = ⊎_elim (λ none. none) (λ none. none) (told_fact x s (λ t. ⊥ ⊎ ⊥) is worn)
+
 -- ---- Fsync
 
 -- all is written through, so that nothing is left to do
@@ -105,7 +108,7 @@ was_synced told before after digest_of objects whole s pass handle now passes sa
     backed = backed_still told before after digest_of objects whole s same (replies.Done ≡ success whole pass (ops.Fsync handle) now) (λ x m b is. refl);
   };
   tells = same;
-  unworn = told_fact (told before.keeper) s.now (λ t. IsWorn t whole (ops.Fsync handle)) s.tells;
+  unworn = none_worn (told before.keeper) s.now s.tells;
   room = no_blocks_room digest_of (told before.keeper) objects whole pass (ops.Fsync handle) now refl;
 }
 
@@ -146,7 +149,7 @@ module _ {K : Type 0} (told : K → Option Told) (before after : RowCore K) (dig
       backed = backed_still told before after digest_of objects whole s same (replies.Bytes out ≡ success whole pass read now) exactly;
     };
     tells = same;
-    unworn = told_fact (told before.keeper) s.now (λ t. IsWorn t whole read) s.tells;
+    unworn = none_worn (told before.keeper) s.now s.tells;
     room = no_blocks_room digest_of (told before.keeper) objects whole pass read now refl;
   }
     where

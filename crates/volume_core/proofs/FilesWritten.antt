@@ -32,14 +32,13 @@ use Rattle.file_ops.specs.FileBytes.{IfBothTold, size_of_form, stored_in}
 use Rattle.file_ops.specs.FileChanges.{AreWorn, GetsBytes, HoldsBytes, IsFileAt, IsFileStep, with_length}
 use Rattle.file_ops.specs.FileFaults.{IsLossAmong}
 use Rattle.file_ops.specs.Placed.{ArePrepared}
-use Rattle.ref_counts.specs.Plans.{IsWorn}
 use Rattle.volume_core.specs.declared.row_core.RowCore.{RowCore}
-use Rattle.volume_core.specs.Causes.{AreWornBlocks, HasRoom, LacksBlocks, file_used, length_of_file, needed_by}
+use Rattle.volume_core.specs.Causes.{AreWornBlocks, AreWornRows, HasRoom, LacksBlocks, file_used, length_of_file, needed_by}
 use Rattle.volume_core.specs.Refusals.{IsDone, Stands}
 use Rattle.volume_core.specs.Standing.{AreFewTold, StandsFor, IsToldAfter}
 use Rattle.volume_core.proofs.ChangedNodes.{changed_file, length-resized, length-written}
 use Rattle.volume_core.proofs.FileDone.{drawn_tables, ends_at, file_reply, file_stays, file_told, next_tree, positive_length}
-use Rattle.volume_core.proofs.FileOutcomes.{length_is, same_loss}
+use Rattle.volume_core.proofs.FileOutcomes.{length_is, none_worn, same_loss}
 use Rattle.volume_core.proofs.FileRoom.{no_bytes_room}
 use Rattle.volume_core.proofs.LawsUsed.{ChangeLaws, DrawnLaws}
 use Rattle.volume_core.proofs.Looking.{IsOpenFile}
@@ -115,9 +114,9 @@ module _ {K : Type 0} (told : K → Option Told) (before after : RowCore K) (dig
             laws.exact_written digest_of t then_written whole after_write r.id offset bytes old file sized (positive_length bytes some)
             (ends_at told before after digest_of objects later whole s drawn_laws laws r size now block_size (written_at offset bytes) written there regular written_long middle batch prepared same_size stepped held gets bytes_held tells committed handles old long)
             (subst (λ k. IsFileChanged digest_of t then_written whole after_write r.id (written_at offset bytes old) (blocks_of_write whole.block_size offset (length bytes) k (stored_length t r.id))) (sym long) changed) exact));
-        tells = subst (λ b. IsToldAfter (not b) true 0 (told before.keeper) (told after.keeper)) (sym some)
+        tells = subst (λ b. IsToldAfter (not b) true false 0 (told before.keeper) (told after.keeper)) (sym some)
             (file_told told before after digest_of objects later whole s drawn_laws laws r size now block_size (written_at offset bytes) written there regular written_long middle batch prepared same_size stepped held gets bytes_held tells committed handles few);
-        unworn = told_fact (told before.keeper) s.now (λ t. IsWorn t whole write) s.tells;
+        unworn = none_worn (told before.keeper) s.now s.tells;
         room = room;
       }
 
@@ -171,7 +170,7 @@ module _ {K : Type 0} (told : K → Option Told) (before after : RowCore K) (dig
                 (ends_at told before after digest_of objects later whole s drawn_laws laws r len now block_size (resized len) cut there regular resized_long middle batch prepared same_size stepped held gets bytes_held tells committed handles old long)
                 (subst (λ k. IsFileChanged digest_of t then_cut whole after_truncate r.id (resized len old) (blocks_of_resize whole.block_size len k (stored_length t r.id))) (sym long) changed) exact));
             tells = file_told told before after digest_of objects later whole s drawn_laws laws r len now block_size (resized len) cut there regular resized_long middle batch prepared same_size stepped held gets bytes_held tells committed handles few;
-            unworn = told_fact (told before.keeper) s.now (λ t. IsWorn t whole truncate) s.tells;
+            unworn = none_worn (told before.keeper) s.now s.tells;
             room = room;
           }
 
@@ -190,8 +189,8 @@ nothing_written told before after digest_of objects whole s pass handle offset b
         stored = stored_still told before after digest_of objects whole s same;
         backed = backed_still told before after digest_of objects whole s same (replies.Count 0 ≡ success whole pass (ops.Write handle offset bytes) now) (λ x m b is. none);
       });
-      tells = subst (λ b. IsToldAfter (not b) true 0 (told before.keeper) (told after.keeper)) (sym empty) same;
-      unworn = told_fact (told before.keeper) s.now (λ t. IsWorn t whole (ops.Write handle offset bytes)) s.tells;
+      tells = subst (λ b. IsToldAfter (not b) true false 0 (told before.keeper) (told after.keeper)) (sym empty) same;
+      unworn = none_worn (told before.keeper) s.now s.tells;
       room = no_bytes_room digest_of (told before.keeper) objects whole pass handle offset bytes now empty;
     }
 
@@ -217,7 +216,7 @@ module _ {K : Type 0} (told : K → Option Told) (before : RowCore K) (digest_of
         → LacksBlocks digest_of (told before.keeper) objects whole pass (ops.Write handle offset bytes) now
     write_worn worn =
         fact_told (told before.keeper) s.now
-        (λ t. IsWorn t whole (ops.Write handle offset bytes) ⊎ ((x : Inode) × (inode_at t (file_used whole pass (ops.Write handle offset bytes)) ≡ Some x) × AreWornBlocks digest_of t objects whole x now (ops.Write handle offset bytes))) s.tells
+        (λ t. AreWornRows t whole (ops.Write handle offset bytes) now ⊎ ((x : Inode) × (inode_at t (file_used whole pass (ops.Write handle offset bytes)) ≡ Some x) × AreWornBlocks digest_of t objects whole x now (ops.Write handle offset bytes))) s.tells
         (inr (
           r,
           ap (inode_at s.now.tables) o.inode ∙ o.row,
@@ -242,7 +241,7 @@ module _ {K : Type 0} (told : K → Option Told) (before : RowCore K) (digest_of
         → LacksBlocks digest_of (told before.keeper) objects whole pass (ops.Truncate inode len) now
     truncate_worn worn =
         fact_told (told before.keeper) s.now
-        (λ t. IsWorn t whole (ops.Truncate inode len) ⊎ ((x : Inode) × (inode_at t (file_used whole pass (ops.Truncate inode len)) ≡ Some x) × AreWornBlocks digest_of t objects whole x now (ops.Truncate inode len))) s.tells
+        (λ t. AreWornRows t whole (ops.Truncate inode len) now ⊎ ((x : Inode) × (inode_at t (file_used whole pass (ops.Truncate inode len)) ≡ Some x) × AreWornBlocks digest_of t objects whole x now (ops.Truncate inode len))) s.tells
         (inr (
           r,
           ap (inode_at s.now.tables) number ∙ there,

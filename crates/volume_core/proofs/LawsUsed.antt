@@ -3,10 +3,12 @@ use Rattle.std.specs.Prelude.{◌≡◌, ◌≢◌, ◌<◌, ◌==◌, ℕ, List
 use Rattle.std.specs.List.{list_any}
 use Rattle.block_math.specs.Changes.{resized, written_at}
 use Rattle.op_frames.specs.declared.operation.Op.{Op}
+use Rattle.op_frames.specs.declared.operation.Op.TheVariants as ops
 use Rattle.plain_tree.specs.Checks.{first_failure}
 use Rattle.plain_tree.specs.Classes.{Bytes, class_of}
 use Rattle.tree_laws.specs.Files.{copies_files}
 use Rattle.plain_tree.specs.Files.{file_at}
+use Rattle.plain_tree.specs.Numbers.{InOrder}
 use Rattle.plain_tree.specs.Operations.{checks, effect}
 use Rattle.plain_tree.specs.Tree.{Tree}
 use Rattle.plain_tree.specs.WellFormed.{IsWellFormed}
@@ -26,6 +28,8 @@ use Rattle.byte_steps.specs.Changed.{EndsAt, IsFileChanged, KnowsChanged, stored
 use Rattle.byte_steps.specs.Kept.{KeepsBytes}
 use Rattle.byte_steps.specs.Shared.{SharesBlocks}
 use Rattle.file_ops.specs.FileChanges.{IsFileAt}
+use Rattle.tree_copy.specs.CopiedBytes.{CopiesFiles}
+use Rattle.tree_copy.specs.CopySteps.{IsCopyStep}
 
 -- objects that are drawn
 pub record DrawnLaws : Type 0 where
@@ -54,6 +58,13 @@ pub record NameLaws : Type 0 where
   pub size : (whole : Tree) (pass now : ℕ) (op : Op) → first_failure (checks whole pass op) ≡ None → (effect whole pass op now).block_size ≡ whole.block_size
   pub shares : (t after : Tables) (whole next : Tree) → IsValid t → Represents t whole → Represents after next → LeavesRest t after
       → next.block_size ≡ whole.block_size → KeepsBytes whole next → SharesBlocks t after whole next
+  pub shared : ShareLaws
+
+-- copies of trees are such calls too
+pub record CopyLaws : Type 0 where
+  pub files : (whole : Tree) (pass source parent now : ℕ) (name : List ℕ) → InOrder whole → CopiesFiles whole source (effect whole pass (ops.CopyTree source parent name) now)
+  pub shares : (t after : Tables) (whole next : Tree) (source : ℕ) → Represents t whole → CopiesFiles whole source next → IsCopyStep t after whole source next
+      → SharesBlocks t after whole next
   pub shared : ShareLaws
 
 -- a file that gets other bytes: what keeps names keeps the tree, and a changed file has its bytes

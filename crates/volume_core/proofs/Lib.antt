@@ -13,6 +13,7 @@ mod LawsUsed
 mod Looking
 mod Occurring
 mod Opened
+mod RightPlans
 mod Standing
 mod Successes
 mod TableCounts

@@ -308,7 +308,7 @@ few_committed batch before after s next drawn committed tells ordered step =
 
 -- a batch is told where it has a change
 pub told_after : (batch : List Change) (keeps : Bool) (drawn : ℕ) (before after : Option Told) (s : Told) (next : Tree) → IsTrue (rises by_spot s.tables.inode_blocks) → (length batch == 0) ≡ keeps → IsCommitted batch before after → before ≡ Some s
-    → IsStep s.tables (tables_after batch s.tables) next drawn → IsToldAfter (not keeps) false drawn before after
+    → IsStep s.tables (tables_after batch s.tables) next drawn → IsToldAfter (not keeps) false false drawn before after
 told_after [] true drawn before after s next ordered empty committed tells step = committed
 told_after [] false drawn before after s next ordered empty committed tells step =
     let clash : true ≡ false = empty in

@@ -10,15 +10,15 @@ use Rattle.plain_tree.specs.Calls.{Answered, no_memory, tree_after_reply}
 use Rattle.plain_tree.specs.Checks.{first_failure}
 use Rattle.plain_tree.specs.Classes.{keeps_rows, names_drawn}
 use Rattle.plain_tree.specs.Operations.{checks}
+use Rattle.tree_laws.specs.Files.{copies_files}
 use Rattle.s3_rows.specs.Told.{Told, IfTold}
 use Rattle.s3_devices.specs.Objects.{Objects}
-use Rattle.ref_counts.specs.Plans.{IsWorn}
 use Rattle.core_rules.specs.Built.{is_built, core_reply}
 use Rattle.volume_core.specs.declared.refusal.Refusal.{Refusal}
 use Rattle.volume_core.specs.declared.refusal.Refusal.TheVariants.{Refused, Worn, Keeper, Link, Lost, Memory}
 use Rattle.volume_core.specs.declared.row_core.RowCore.{RowCore}
 use Rattle.volume_core.specs.Backed.{GoesOnBacked, StaysStored}
-use Rattle.volume_core.specs.Causes.{HasRoom, IsLossFor, LacksBlocks, writes_blocks}
+use Rattle.volume_core.specs.Causes.{AreWornRows, HasRoom, IsLossFor, LacksBlocks, writes_blocks}
 use Rattle.volume_core.specs.Refusals.{IsLike}
 use Rattle.volume_core.specs.Standing.{StandsFor, IsToldAfter, IsToldAlike}
 
@@ -48,9 +48,9 @@ no_space = replies.Errno (record { 0 = 28 })
 abbrev pub changes_rows : Tree → Request → Bool
 changes_rows whole call = is_built call.op && not (is_some (first_failure (checks whole call.pass call.op))) && not (keeps_rows whole call.pass call.op)
 
--- no check fails, and a count or an id of a name or an inode that is needed is worn
+-- no check fails, and a count or an id of a name or an inode that is needed is worn, or one that a copy needs
 abbrev pub LacksName : Option Told → Tree → Request → Type 0
-LacksName before whole call = (first_failure (checks whole call.pass call.op) ≡ None) × IfTold before (λ t. IsWorn t whole call.op)
+LacksName before whole call = (first_failure (checks whole call.pass call.op) ≡ None) × IfTold before (λ t. AreWornRows t whole call.op call.now)
 
 -- no check fails, and the store lost bytes that are needed
 abbrev pub IsLostReply : (List ℕ → List ℕ) → Option Told → Option Objects → Tree → Request → Reply → Type 0
@@ -72,7 +72,7 @@ IsForced risen failed digest_of before objects whole call reply =
 -- objects that were drawn.
 abbrev pub IsRowAnswer : Type 0 → Type 0 → (List ℕ → List ℕ) → Option Told → Option Told → Option Objects → Tree → Request → Reply → Type 0
 IsRowAnswer risen failed digest_of before after objects whole call reply =
-    (IsLike call.op (core_reply whole call) reply × IsToldAfter (changes_rows whole call) (writes_blocks call.op) (names_drawn whole call.op) before after
+    (IsLike call.op (core_reply whole call) reply × IsToldAfter (changes_rows whole call) (writes_blocks call.op) (copies_files call.op) (names_drawn whole call.op) before after
     × (IsTrue (is_built call.op) → LacksName before whole call → ⊥)
     × (IsTrue (is_built call.op) → first_failure (checks whole call.pass call.op) ≡ None → HasRoom digest_of before objects whole call.pass call.op call.now))
     ⊎ (IsTrue (is_built call.op) × IsForced risen failed digest_of before objects whole call reply × IsToldAlike (writes_blocks call.op) before after)

@@ -18,6 +18,7 @@ use Rattle.file_ops.specs.FileBytes.{IfBothTold, stored_in}
 use Rattle.file_ops.specs.FileChanges.{AreWorn, HaveRoom, with_length}
 use Rattle.file_ops.specs.FileFaults.{IsLossAmong}
 use Rattle.ref_counts.specs.Plans.{IsWorn}
+use Rattle.tree_copy.specs.CopyPlans.{IsCopyWorn}
 
 -- it writes blocks of a file
 abbrev pub writes_blocks : Op → Bool
@@ -61,10 +62,19 @@ AreWornBlocks digest_of t objects whole r now (ops.Write handle offset bytes) =
     (changes.PutInode (with_length (max r.size (offset + length bytes)) now r) ∷ [])
 AreWornBlocks digest_of t objects whole r now _ = ⊥
 
--- A count or an id that is needed is worn: of a name or an inode, or of the blocks that are written.
+-- a copy of a tree would use a name or a block too often
+abbrev pub IsWornCopy : Tables → Tree → Op → ℕ → Type 0
+IsWornCopy t whole (ops.CopyTree source parent name) now = IsCopyWorn t whole source parent now name
+IsWornCopy t whole _ now = ⊥
+
+-- a count or an id of a name or an inode that is needed is worn, or a count that a copy needs
+abbrev pub AreWornRows : Tables → Tree → Op → ℕ → Type 0
+AreWornRows t whole op now = IsWorn t whole op ⊎ IsWornCopy t whole op now
+
+-- A count or an id that is needed is worn: of a name or an inode, of what a copy uses, or of the blocks that are written.
 abbrev pub LacksBlocks : (List ℕ → List ℕ) → Option Told → Option Objects → Tree → ℕ → Op → ℕ → Type 0
 LacksBlocks digest_of before objects whole pass op now =
-    IfTold before (λ t. IsWorn t whole op ⊎ ((r : Inode) × (inode_at t (file_used whole pass op) ≡ Some r) × AreWornBlocks digest_of t objects whole r now op))
+    IfTold before (λ t. AreWornRows t whole op now ⊎ ((r : Inode) × (inode_at t (file_used whole pass op) ≡ Some r) × AreWornBlocks digest_of t objects whole r now op))
 
 -- there is a number and a count for each block that it writes into a file, whatever bytes that has
 abbrev pub HaveRoomFor : (List ℕ → List ℕ) → Tables → Objects → Tree → Inode → ℕ → Op → Type 0

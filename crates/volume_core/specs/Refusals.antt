@@ -8,16 +8,16 @@ use Rattle.plain_tree.specs.Tree.{Tree}
 use Rattle.plain_tree.specs.Checks.{first_failure}
 use Rattle.plain_tree.specs.Operations.{checks, effect, success}
 use Rattle.plain_tree.specs.Classes.{keeps_rows, names_drawn}
+use Rattle.tree_laws.specs.Files.{copies_files}
 use Rattle.s3_rows.specs.Told.{Told, IfTold}
 use Rattle.s3_devices.specs.Objects.{Objects}
 use Rattle.file_ops.specs.declared.file_fault.FileFault.{FileFault}
 use Rattle.file_ops.specs.declared.file_fault.FileFault.TheVariants as faults
-use Rattle.ref_counts.specs.Plans.{IsWorn}
 use Rattle.volume_core.specs.declared.refusal.Refusal.{Refusal}
 use Rattle.volume_core.specs.declared.refusal.Refusal.TheVariants.{Refused, Worn, Keeper, Link, Lost, Memory}
 use Rattle.volume_core.specs.declared.row_core.RowCore.{RowCore}
 use Rattle.volume_core.specs.Backed.{GoesOnBacked, StaysStored}
-use Rattle.volume_core.specs.Causes.{HasRoom, IsLossFor, LacksBlocks, writes_blocks}
+use Rattle.volume_core.specs.Causes.{AreWornRows, HasRoom, IsLossFor, LacksBlocks, writes_blocks}
 use Rattle.volume_core.specs.Standing.{StandsFor, IsToldAfter, IsToldAlike}
 
 -- the refusal by a fault of blocks
@@ -81,8 +81,8 @@ module _ {K : Type 0} (told : K → Option Told) (before after : RowCore K) (dig
     pub passes : first_failure (checks whole pass op) ≡ None
     pub like : IsLike op (success whole pass op now) reply
     pub stays : Stands (reply ≡ success whole pass op now) (effect whole pass op now)
-    pub tells : IsToldAfter (not (keeps_rows whole pass op)) (writes_blocks op) (names_drawn whole op) (told before.keeper) (told after.keeper)
-    pub unworn : IfTold (told before.keeper) (λ t. IsWorn t whole op) → ⊥
+    pub tells : IsToldAfter (not (keeps_rows whole pass op)) (writes_blocks op) (copies_files op) (names_drawn whole op) (told before.keeper) (told after.keeper)
+    pub unworn : IfTold (told before.keeper) (λ t. AreWornRows t whole op now) → ⊥
     pub room : HasRoom digest_of (told before.keeper) objects whole pass op now
 
   -- Refused: the first check that fails has this number. Worn and Lost: no check fails, and the cause is there. After each refusal

@@ -1,8 +1,9 @@
 //! The operations that are built, each by its plan.
-ghost use Rattle.std.specs.Prelude.{◌≡◌, ◌<◌, ◌^◌, false, Option, None, Err, IsTrue, IfOk};
+ghost use Rattle.std.specs.Prelude.{◌≡◌, ◌<◌, ◌^◌, ℕ, false, Option, None, Err, IsTrue, IfOk};
 ghost use Rattle.sha2.specs.Sha256.{sha256};
 ghost use Rattle.s3_devices.specs.Objects.{Objects};
 ghost use Rattle.s3_base.specs.Faults.{HasCause};
+ghost use Rattle.op_frames.specs.declared.operation.Op.TheVariants as ops;
 ghost use Rattle.op_frames.specs.Operations.{is_op};
 ghost use Rattle.plain_tree.specs.Tree.{Tree};
 ghost use Rattle.dir_ops.specs.Plans as dir_plans;
@@ -20,9 +21,10 @@ use crate::rows::commit;
 use byte_steps::{operations_on_names_keep_bytes, shared_blocks_keep_bytes};
 use op_frames::{Op, Reply};
 use ref_counts::{Handle, Handles, Plan};
-use s3_base::Errno;
+use s3_base::{ByteList, Errno};
 use s3_devices::Link;
 use s3_rows::Keeper;
+use tree_copy::{copied_trees_keep_bytes, copy_batch};
 
 /// Commits what a plan says, and gives its reply.
 fn take<K: Keeper>(keeper: &mut K, plan: Plan) -> Result<Reply, Refusal>
@@ -177,6 +179,11 @@ impl<K: Keeper> RowCore<K> {
                 bytes,
             } => self.write(link, pass, *handle, *offset, bytes, now),
             Op::Fsync { handle } => self.fsync(pass, *handle),
+            Op::CopyTree {
+                source,
+                parent,
+                name,
+            } => self.copy_tree(*source, *parent, name, now),
             Op::LockTree { .. } | Op::RemoveTree { .. } => self.on_trees(pass, op, now),
             _ => Err(Refusal::Refused(Errno::ENOSYS)),
         }
@@ -235,5 +242,27 @@ impl<K: Keeper> RowCore<K> {
             now,
         )?;
         fulfil(&mut self.keeper, &mut self.handles, pass, op, plan)
+    }
+
+    /// Copies a tree, by its plan.
+    fn copy_tree(
+        &mut self,
+        source: u64,
+        parent: u64,
+        name: &ByteList,
+        now: u64,
+    ) -> Result<Reply, Refusal>
+        requires now { now < 2 ^ 62 }
+        ensures outcome { (whole : Tree) (pass : ℕ) (objects : Option Objects) → StandsFor K.told self.old whole
+            → IsOutcome K.told self.old self.new sha256 objects objects whole pass (ops.CopyTree source parent name.now) now result }
+        ensures keeper { HasCause (K.faults self.old.keeper) (K.faults self.new.keeper) (has_keeper_failed result) }
+        ensures link { has_link_failed result ≡ false }
+        ensures untold { K.told self.old.keeper ≡ None → K.told self.new.keeper ≡ None }
+        ensures fit { IfOk result (λ reply. IsTrue (is_fit reply)) }
+    {
+        copied_trees_keep_bytes();
+        shared_blocks_keep_bytes();
+        let plan = copy_batch(self.alloc, &mut self.keeper, source, parent, name, now)?;
+        take(&mut self.keeper, plan)
     }
 }

@@ -25,6 +25,11 @@ returns-in-Fsync-clause-built g c built whole s =
     subst (λ (op : Op). IsOutcome g.K.Keeper.told c.args.self.now c.fsync.new.self sha256 (g.L.Link.told c.args.link.now) (g.L.Link.told c.args.link.now) whole c.args.pass op c.args.now c.fsync.result) (sym c.in-Fsync.is)
     (c.fsync.ensures.outcome whole c.args.now (g.L.Link.told c.args.link.now) s)
 
+pub returns-in-CopyTree-clause-built : goal.returns-in-CopyTree-clause-built
+returns-in-CopyTree-clause-built g c built whole s =
+    subst (λ (op : Op). IsOutcome g.K.Keeper.told c.args.self.now c.copy_tree.new.self sha256 (g.L.Link.told c.args.link.now) (g.L.Link.told c.args.link.now) whole c.args.pass op c.args.now c.copy_tree.result) (sym c.in-CopyTree.is)
+    (c.copy_tree.ensures.outcome whole c.args.pass (g.L.Link.told c.args.link.now) s)
+
 pub returns-in-Lookup-clause-built : goal.returns-in-Lookup-clause-built
 returns-in-Lookup-clause-built g c built whole s = c.on_entries.ensures.outcome whole (g.L.Link.told c.args.link.now) s
 
@@ -64,6 +69,7 @@ returns-in_default-clause-built g c built whole s = absurd (has_arm c.args.op.no
     has_arm (ops.Getxattr inode name) is own = c.in_default.not-Getxattr inode name is
     has_arm (ops.Listxattr inode after most) is own = c.in_default.not-Listxattr inode after most is
     has_arm (ops.Removexattr inode name) is own = c.in_default.not-Removexattr inode name is
+    has_arm (ops.CopyTree source parent name) is own = c.in_default.not-CopyTree source parent name is
     has_arm (ops.LockTree inode) is own = c.in_default.not-LockTree inode is
     has_arm (ops.RemoveTree parent name) is own = c.in_default.not-RemoveTree parent name is
     has_arm ops.Leave is own = c.in_default.not-Leave is
