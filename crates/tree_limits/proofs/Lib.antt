@@ -1,0 +1,10 @@
+pub mod BlockRoom
+pub mod ChangedFew
+pub mod CopiedUses
+pub mod CopyUses
+pub mod PlaceRoom
+pub mod RowUses
+pub mod VisitUses
+pub mod WalkedAll
+pub mod WornCopies
+pub mod WornNames
