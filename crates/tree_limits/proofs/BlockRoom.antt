@@ -1,5 +1,5 @@
 -- While few numbers of blocks and objects are in use, what is worn for blocks of a file is the count of some block.
-use Rattle.std.proofs.Common.{◌≡◌, ℕ, zero, suc, ◌+◌, ◌≤◌, ◌^◌, ◌⊎◌, inl, inr, List, [], ◌∷◌, ◌++◌, length, Bool, true, false, Option, None, Some, refl, sym, ap, ◌∙◌, subst, count_by, arith}
+use Rattle.std.proofs.Common.{◌≡◌, ℕ, ◌+◌, ◌≤◌, ◌^◌, ◌⊎◌, inl, inr, List, [], ◌∷◌, length, Bool, true, false, Option, None, Some, refl, sym, ap, ◌∙◌, subst, count_by, arith}
 use Rattle.std.specs.Prelude.{IsTrue, not, find, is_some, option_map, unwrap_or}
 use Rattle.std.specs.List.{list_all}
 use Rattle.std.proofs.lemmas.Bool.{cases_lt}
@@ -17,25 +17,19 @@ use Rattle.s3_rows.specs.Validity.{IsValid}
 use Rattle.row_lemmas.proofs.Tests.{find_passes, list_all_from_find, list_all_weaker}
 use Rattle.row_lemmas.proofs.Keyed.RowAt.{row_at_from_find}
 use Rattle.s3_devices.specs.Objects.{Objects}
-use Rattle.core_model.specs.Safe.{with_new_object, with_new_objects}
+use Rattle.core_model.specs.Safe.{with_new_objects}
 use Rattle.block_steps.specs.Owed.{next_block_of}
 use Rattle.file_ops.specs.declared.new_block.NewBlock.{NewBlock}
 use Rattle.file_ops.specs.declared.place.Place.{Place}
 use Rattle.file_ops.specs.FileChanges.{AreWorn, next_object_of}
 use Rattle.file_ops.specs.NewBlocks.{numbers_of}
 use Rattle.file_ops.specs.Placed.{LacksCounts, LacksNumbers, places_counted, with_drawn}
-use Rattle.file_ops.specs.Resolved.{IsWorn, is_new, next_after, place_for, resolved}
+use Rattle.file_ops.specs.Resolved.{IsWorn, is_new, resolved}
+use Rattle.file_ops.proofs.NamedBlocks.{length-resolved}
+use Rattle.file_ops.proofs.PlacedBlocks.{blocks-with_new_objects}
 use Rattle.tree_limits.proofs.PlaceRoom.{HasRoom, above_test, all_counted, can_rise, test_above}
 
 -- ---- the beginning
-
-one_leaves_blocks : (p : Option Parameters) (t : Tables) → (with_new_object p t).blocks ≡ t.blocks
-one_leaves_blocks None t = refl
-one_leaves_blocks (Some p) t = refl
-
-blocks-with_new_objects : (count : ℕ) (t : Tables) → (with_new_objects count t).blocks ≡ t.blocks
-blocks-with_new_objects zero t = refl
-blocks-with_new_objects (suc count) t = blocks-with_new_objects count (with_new_object t.params t) ∙ one_leaves_blocks t.params t
 
 -- the row of an inode is no block
 blocks_stay : (batch : List Change) → (batch ≡ []) ⊎ ((row : Inode) × (batch ≡ changes.PutInode row ∷ [])) → (u : Tables) → (tables_after batch u).blocks ≡ u.blocks
@@ -55,13 +49,6 @@ start_room t u n left same rise less = record {
 }
 
 -- ---- what stands in the way
-
-length-resolved : (digest_of : List ℕ → List ℕ) (t : Tables) (before : List Place) (block object : ℕ) (blocks : List NewBlock)
-    → length (resolved digest_of t before block object blocks) ≡ length blocks
-length-resolved digest_of t before block object [] = refl
-length-resolved digest_of t before block object (b ∷ bs) =
-    let x = place_for digest_of t before block object b.stored in
-    ap suc (length-resolved digest_of t (before ++ x ∷ []) (next_after x block) (next_after x object) bs)
 
 module _ (digest_of : List ℕ → List ℕ) (t : Tables) (blocks : List NewBlock) where
   -- where blocks are found, by the parameters

@@ -1,5 +1,4 @@
 pub mod BlockRoom
-pub mod ChangedFew
 pub mod CopiedUses
 pub mod CopyUses
 pub mod PlaceRoom
