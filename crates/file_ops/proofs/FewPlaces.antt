@@ -1,7 +1,7 @@
 -- How much a call that places blocks draws, and how many places come by it.
-use Rattle.std.proofs.Common.{◌≡◌, ℕ, zero, suc, ◌+◌, ◌-◌, ◌<◌, ◌≤◌, ◌^◌, ◌/◌, ◌%◌, List, [], ◌∷◌, ◌++◌, length, Bool, true, false, cond, Option, None, Some, refl, sym, ap, ◌∙◌, subst, arith, count_by}
-use Rattle.std.specs.Prelude.{◌==◌, ◌&&◌, nat_lt, option_map, unwrap_or, filter, if◌then◌else◌}
-use Rattle.std.proofs.lemmas.List.{length-append, length-map}
+use Rattle.std.proofs.Common.{◌≡◌, ℕ, zero, suc, ◌+◌, ◌-◌, ◌<◌, ◌≤◌, ◌^◌, List, [], ◌∷◌, ◌++◌, length, Bool, true, false, cond, Option, None, Some, refl, sym, ap, ◌∙◌, subst, arith, count_by}
+use Rattle.std.specs.Prelude.{◌==◌, nat_lt, option_map, unwrap_or}
+use Rattle.std.proofs.lemmas.List.{length-map}
 use Rattle.std.proofs.lemmas.List.Sums.{count_by-le-length}
 use Rattle.s3_rows.specs.declared.change.Change.{Change}
 use Rattle.s3_rows.specs.declared.change.Change.TheVariants as changes
@@ -15,9 +15,7 @@ use Rattle.s3_devices.specs.Told.{Becomes}
 use Rattle.row_lemmas.proofs.Tables.{tables_after-tables_after}
 use Rattle.row_lemmas.proofs.Keyed.Length.{length-put}
 use Rattle.row_lemmas.proofs.Keyed.Rest.{length-without}
-use Rattle.core_model.specs.Changes.{blocks_of_resize, blocks_of_write, numbers_from, rest_of, tail_before}
 use Rattle.core_model.specs.Safe.{with_new_object, with_new_objects}
-use Rattle.block_math.specs.Ranges.{piece_count}
 use Rattle.ref_counts.specs.Links.{counted_block, link_replaced, link_set, lowered_block, lowered_object, places_dropped, places_from, relinked}
 use Rattle.block_steps.specs.Owed.{next_block_of}
 use Rattle.block_steps.specs.Places.{Places, block_made, places_relinked}
@@ -339,47 +337,6 @@ few_cut count t later placed dropped batch id from row drops puts few =
     (record { blocks = left.blocks; objects = left.objects; places = left.places })
 
 -- ---- blocks that change
-
-pub tail_few : (size len longer first : ℕ) (stored : ℕ → ℕ) → length (tail_before size len longer first stored) ≤ 1
-tail_few size len longer first stored =
-    by_longer (nat_lt len longer) (nat_lt (rest_of size len last) (stored last) && nat_lt 0 len)
-  where
-    last : ℕ
-    last = (len - 1) / size
-
-    by_first : (b : Bool) → length {A = ℕ} (cond b (last ∷ []) []) ≤ 1
-    by_first true = let most : 1 ≤ 1 = omega arith in most
-    by_first false = let most : 0 ≤ 1 = omega arith in most
-
-    by_longer : (a b : Bool) → length {A = ℕ} (if a then filter (λ n. nat_lt n first) (if b then last ∷ [] else []) else []) ≤ 1
-    by_longer false b = let most : 0 ≤ 1 = omega arith in most
-    by_longer true false = let most : 0 ≤ 1 = omega arith in most
-    by_longer true true = by_first (nat_lt last first)
-
-pub length-numbers_from : (first count : ℕ) → length (numbers_from first count) ≡ count
-length-numbers_from first zero = refl
-length-numbers_from first (suc count) = ap suc (length-numbers_from (first + 1) count)
-
-pub written_few : (size off count len : ℕ) (stored : ℕ → ℕ) → length (blocks_of_write size off count len stored) ≤ piece_count off count size + 1
-written_few size off count len stored =
-    let pieces : ℕ = piece_count off count size in
-    let before : List ℕ = tail_before size len (off + count) (off / size) stored in
-    let touched : List ℕ = numbers_from (off / size) pieces in
-    let tail : length before ≤ 1 = tail_few size len (off + count) (off / size) stored in
-    let long : length touched ≡ pieces = length-numbers_from (off / size) pieces in
-    let whole : length (blocks_of_write size off count len stored) ≡ length before + length touched = length-append before touched in
-    omega (arith, tail, long, whole)
-
-pub resized_few : (size longer len : ℕ) (stored : ℕ → ℕ) → length (blocks_of_resize size longer len stored) ≤ 2
-resized_few size longer len stored = by_case (longer % size == 0) (tail_few size len longer (longer / size) stored)
-  where
-    by_case : (b : Bool) → length (tail_before size len longer (longer / size) stored) ≤ 1
-        → length {A = ℕ} (if b then tail_before size len longer (longer / size) stored else tail_before size len longer (longer / size) stored ++ longer / size ∷ []) ≤ 2
-    by_case true tail = omega (arith, tail)
-    by_case false tail =
-        let whole : length (tail_before size len longer (longer / size) stored ++ longer / size ∷ []) ≡ length (tail_before size len longer (longer / size) stored) + 1 =
-        length-append (tail_before size len longer (longer / size) stored) (longer / size ∷ []) in
-        omega (arith, tail, whole)
 
 -- a fact by how many blocks there are, where their numbers are known
 pub few_answer : (P : ℕ → Tables → Tables → Type 0) → ((a b : ℕ) (t later : Tables) → a ≤ b → P a t later → P b t later) → (before middle after : Option Told) (most : ℕ)

@@ -1,11 +1,12 @@
 mod BothTold
+pub mod ChangedFew
 mod ChangedNumbers
 mod CountedPlaces
 mod Counting
 mod CutFiles
 mod Drawn
 mod DrawnFiles
-pub mod FewPlaces
+mod FewPlaces
 mod FileForms
 mod FileSteps
 mod FoundPlaces

@@ -1,9 +1,6 @@
 -- What calls on blocks leave of the devices, as the core finds it.
-use Rattle.std.proofs.Common.{◌≡◌, ◌+◌, ◌-◌, ◌*◌, ◌/◌, ◌<◌, ◌≤◌, ℕ, List, Bool, true, false, cond, Option, None, Some, refl, sym, ◌∙◌, subst, inl, inr, arith}
-use Rattle.std.proofs.Math.Nat.{add-mul, div-mul-le_self, lt-div-mul-add, mul-le-mul_right}
-use Rattle.std.proofs.lemmas.Bool.{cases_lt}
-use Rattle.std.specs.Prelude.{◌==◌, option_map}
-use Rattle.block_math.specs.Ranges.{piece_count}
+use Rattle.std.proofs.Common.{◌≡◌, ◌-◌, ◌≤◌, ℕ, List, true, Option, None, Some, sym, ◌∙◌, subst, arith}
+use Rattle.std.specs.Prelude.{option_map}
 use Rattle.op_frames.specs.declared.operation.Op.{Op}
 use Rattle.plain_tree.specs.Tree.{Tree}
 use Rattle.s3_rows.specs.Ranges.{HasRanges}
@@ -67,30 +64,3 @@ few_after None m after batch count most committed few = tt
 few_after (Some s) None after batch count most committed few = subst (λ x. AreFewTold (Some s) x) (sym committed) tt
 few_after (Some s) (Some u) after batch count most committed few =
     subst (λ x. AreFewTold (Some s) x) (sym committed) (record { blocks = omega (arith, few.blocks, most); objects = omega (arith, few.objects, most); places = omega (arith, few.places, most) })
-
--- ---- how many blocks a Write changes
-
--- numbers of blocks that are this far apart lie as many blocks apart
-count_bound : (first last size len off : ℕ) → 0 < size → 4096 ≤ size → len ≤ 131072 → last * size ≤ off + len → off < first * size + size → last + 1 - first + 1 ≤ 34
-count_bound first last size len off some least most ends begins =
-    elim (cases_lt (last - first) 33) [
-      | inl low ↦ omega (arith, low)
-      | inr high ↦
-          (let far : (first + 33) * size ≤ last * size = mul-le-mul_right size (omega (arith, high)) in
-          absurd (omega (arith, far, add-mul first 33 size, ends, begins, least, most)))
-    ]
-
-pub few_write : (len off size : ℕ) → 4096 ≤ size → len ≤ 131072 → piece_count off len size + 1 ≤ 34
-few_write len off size least most = by_len (len == 0) refl
-  where
-    some : 0 < size
-    some = omega arith
-
-    bound : (len == 0) ≡ false → (off + len - 1) / size + 1 - off / size + 1 ≤ 34
-    bound filled =
-        count_bound (off / size) ((off + len - 1) / size) size len off some least most
-        (omega (arith, div-mul-le_self (off + len - 1) size)) (lt-div-mul-add some)
-
-    by_len : (b : Bool) → (len == 0) ≡ b → cond b 0 ((off + len - 1) / size + 1 - off / size) + 1 ≤ 34
-    by_len true is = omega arith
-    by_len false is = bound is

@@ -27,7 +27,8 @@ use Rattle.file_ops.specs.Placed.{ArePrepared, IsWornFor, KnowsBlocks}
 use Rattle.file_ops.proofs.ChangedNumbers.{distinct_of_resize}
 use Rattle.file_ops.proofs.Room.{room_answer}
 use Rattle.file_ops.proofs.WrittenFiles.{bytes_answer, changed_answer, grown_answer, is_less, is_not_less, less_answer, step_answer, worn_answer}
-use Rattle.file_ops.proofs.FewPlaces.{few_answer, few_more, resized_few, told_both, told_few_same}
+use Rattle.file_ops.proofs.ChangedFew.{resized_few}
+use Rattle.file_ops.proofs.FewPlaces.{few_answer, few_more, told_both, told_few_same}
 use Rattle.file_ops.proofs.FileSteps.{IfOk-weaker}
 use Rattle.file_ops.proofs.KeptObjects.{keeps_same}
 use Rattle.file_ops.proofs.changing.resize_file.Goals as goal

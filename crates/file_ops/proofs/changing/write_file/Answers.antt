@@ -26,7 +26,8 @@ use Rattle.file_ops.specs.Placed.{ArePrepared, IsWornFor, KnowsBlocks}
 use Rattle.file_ops.proofs.ChangedNumbers.{distinct_of_write}
 use Rattle.file_ops.proofs.Room.{room_answer}
 use Rattle.file_ops.proofs.WrittenFiles.{bytes_answer, changed_answer, grown_answer, length-written, step_answer, worn_answer}
-use Rattle.file_ops.proofs.FewPlaces.{few_answer, few_more, told_few_same, written_few}
+use Rattle.file_ops.proofs.ChangedFew.{written_few}
+use Rattle.file_ops.proofs.FewPlaces.{few_answer, few_more, told_few_same}
 use Rattle.file_ops.proofs.FileSteps.{IfOk-weaker}
 use Rattle.file_ops.proofs.KeptObjects.{keeps_same}
 use Rattle.file_ops.proofs.changing.write_file.Goals as goal

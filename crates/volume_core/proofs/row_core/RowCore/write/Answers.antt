@@ -26,7 +26,8 @@ use Rattle.volume_core.specs.declared.row_core.RowCore.{RowCore}
 use Rattle.volume_core.specs.Refusals.{refusal_of}
 use Rattle.volume_core.specs.Standing.{AreFewTold}
 use Rattle.volume_core.specs.Rows.{IsCheckedRow, row_of}
-use Rattle.volume_core.proofs.FileCalls.{drawn_from, few_after, few_more, few_write, only_drawn, still_tells}
+use Rattle.file_ops.proofs.ChangedFew.{few_write}
+use Rattle.volume_core.proofs.FileCalls.{drawn_from, few_after, few_more, only_drawn, still_tells}
 use Rattle.volume_core.proofs.FileChecks.{file_open, open_regular, write_closed, write_locked, write_passes, write_too_far}
 use Rattle.volume_core.proofs.FileOutcomes.{fault_outcome, row_refusal, size_known, size_refusal}
 use Rattle.volume_core.proofs.FileRoom.{write_room}
