@@ -1,1 +1,9 @@
+mod CheckSteps
+mod CleanEnds
+mod ListedKeys
+mod Refused
+mod StageSteps
+mod StepStages
 mod TakenPasses
+mod Underway
+mod WholeChecks

@@ -1,3 +1,9 @@
+pub mod Check
+pub mod DoomedKeys
 pub mod Faults
+pub mod Listing
 pub mod Passes
+pub mod Progress
 pub mod Refusals
+pub mod Starts
+pub mod Steps

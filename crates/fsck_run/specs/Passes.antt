@@ -4,6 +4,7 @@ use Rattle.std.specs.Prelude.{◌≡◌, ℕ, List, [], ◌∷◌, ◌++◌, max
 use Rattle.s3_rows.specs.declared.change.Change.{Change}
 use Rattle.s3_rows.specs.declared.change.Change.TheVariants as changes
 use Rattle.s3_rows.specs.declared.params.State.{State}
+use Rattle.s3_rows.specs.declared.params.State.TheVariants as states
 use Rattle.s3_rows.specs.Rows.{Parameters}
 use Rattle.s3_rows.specs.Tables.{Tables}
 use Rattle.s3_rows.specs.Told.{Told, with_batch}
@@ -21,6 +22,12 @@ use Rattle.fsck_tables.specs.Rows.{repaired_rows}
 use Rattle.fsck_tables.specs.Counts.{repaired_counts}
 use Rattle.fsck_objects.specs.Missing.{repaired_objects}
 use Rattle.fsck_objects.specs.Numbers.{raised_objects}
+use Rattle.fsck_run.specs.declared.fault.FsckFault.{FsckFault}
+use Rattle.fsck_run.specs.declared.fault.FsckFault.TheVariants as faults
+use Rattle.fsck_run.specs.declared.stage.Batched.{Batched}
+use Rattle.fsck_run.specs.declared.stage.Batched.TheVariants as batched
+use Rattle.fsck_run.specs.Faults.{◌>>=◌}
+use Rattle.fsck_run.specs.Refusals.{parameters_of}
 
 -- ---- passes, each of which gives none where it needs a number and none is left
 
@@ -51,7 +58,18 @@ losses_found keys t = option_map found_of (pass_on_losses t)
 abbrev pub counts_found : List KeyItem → Tables → Option Found
 counts_found keys t = Some (repaired_counts t)
 
+abbrev pub found_by : Batched → List KeyItem → Tables → Option Found
+found_by batched.Names = names_found
+found_by batched.Rows = rows_found
+found_by batched.Objects = objects_found
+found_by batched.Losses = losses_found
+found_by batched.Counts = counts_found
+
 -- ---- answers
+
+-- what a pass finds in the tables of a file system, where it needs no number that is not left
+abbrev pub found_in : (Tables → Option Found) → Tables → Result Found FsckFault
+found_in found t = parameters_of t.params >>= (λ p. elim (found t) [ Some f ↦ Ok f | None ↦ Err faults.Worn ])
 
 -- exactly the changes and the lines that are found, that a number is needed and not left, or that there was no memory
 abbrev pub IsRepair : Option Found → Result Repair PassFault → Type 0
@@ -75,11 +93,17 @@ pub record IsTakenAs (f : Found) (before : Told) (after : Option Told) (old new 
   pub lines : new ≡ old ++ map line_of f.findings
   pub made_is : made ≡ is_some_batch f.changes
 
--- the same, of a pass that needed no number that is not left
-abbrev pub IsTaken : Option Found → Told → Option Told → List (List ℕ) → List (List ℕ) → Bool → Type 0
-IsTaken None before after old new made = ⊥
-IsTaken (Some f) before after old new made = IsTakenAs f before after old new made
+-- the same, of a pass that was not refused
+abbrev pub IsTaken : Result Found FsckFault → Told → Option Told → List (List ℕ) → List (List ℕ) → Bool → Type 0
+IsTaken (Err fault) before after old new made = ⊥
+IsTaken (Ok f) before after old new made = IsTakenAs f before after old new made
 
--- the state of the file system is set
+-- ---- the state of the file system
+
+-- it is set
 abbrev pub state_change : Parameters → State → Change
 state_change p state = changes.SetParams (record p { state = state })
+
+-- a clean file system is marked as one that is not
+abbrev pub mark_of : Parameters → List Change
+mark_of p = elim p.state [ states.Clean ↦ state_change p states.Restored ∷ [] | states.Mounted ↦ [] | states.Restored ↦ [] ]

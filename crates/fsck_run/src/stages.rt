@@ -1,45 +1,39 @@
 //! A check, one changing call at a time.
-ghost use Rattle.std.specs.Prelude.{◌≡◌, false};
+ghost use Rattle.std.specs.Prelude.{◌≡◌, ◌++◌, [], false, Option, Some, IfOk, IfErr, OnOk, OnErr};
 ghost use Rattle.s3_base.specs.Faults.{HasCause};
-ghost use Rattle.fsck_run.specs.Faults.{keeper_has_failed, link_has_failed};
+ghost use Rattle.s3_rows.specs.Tables.{IsOrdered};
+ghost use Rattle.s3_rows.specs.Told.{Told};
+ghost use Rattle.s3_devices.specs.Objects.{Objects};
+ghost use Rattle.fsck_run.specs.declared.stage.Stage.TheVariants as stages;
+ghost use Rattle.fsck_run.specs.Check.{step_after};
+ghost use Rattle.fsck_run.specs.Faults.{IsRefusal, keeper_has_failed, link_has_failed};
+ghost use Rattle.fsck_run.specs.Progress.{begun, progress_of};
+ghost use Rattle.fsck_run.specs.Refusals.{parameters_of};
+ghost use Rattle.fsck_run.specs.Starts.{OverTold, IsStoreFound};
+ghost use Rattle.fsck_run.specs.Steps.{IsStagedTo, IsStep, IsStopped};
 
 use crate::FsckFault;
-use crate::pass_steps::{add_lines, commit_some, tables_of, take_pass};
-use crate::passes::{Counts, Losses, Names, Objects, Rows};
+use crate::doomed_keys::DoomedKeys;
+use crate::pass_steps::{add_lines, commit_some, tables_of, take_batch};
+use crate::stage::{Batched, Stage, behind};
 use crate::start::{begin_check, finish};
 use fsck_findings::{Findings, Repair};
 use fsck_objects::{StoreRepair, store};
-use s3_base::{ByteList, Sequence};
+use s3_base::Sequence;
 use s3_devices::{KeyList, Link};
-use s3_rows::Keeper;
+use s3_rows::{Batch, Keeper};
 use std::alloc::{AllocError, Global};
 use std::mem;
 
-/// What a check does next.
-#[derive(Clone, Copy, Debug, PartialEq, Eq)]
-enum Stage {
-    Start,
-    Names,
-    Rows,
-    Objects,
-    Losses,
-    Counts,
-    Store,
-    UnusedKeys,
-    UnusedRows,
-    StrayKeys,
-    Finish,
-    Over,
-}
-
-/// A check that has begun: the keys of the store as it began, the lines so far, and what is to go from the store.
+/// A check that has begun: the keys of the store as it began, the lines so far, and what is to go from the store and the tables.
 #[derive(Drop)]
 pub struct Check {
     stage: Stage,
     keys: KeyList,
     findings: Findings,
-    store: StoreRepair,
-    next: usize,
+    unused: DoomedKeys,
+    rows: Batch,
+    strays: DoomedKeys,
 }
 
 /// What a step of a check answers.
@@ -51,30 +45,15 @@ pub enum Stepped {
     Done(Findings),
 }
 
-/// Deletes the key at a place of a list, and says whether there is one.
-fn delete_next<L: Link>(
-    link: &mut L,
-    keys: &Sequence<ByteList>,
-    next: usize,
-) -> Result<bool, FsckFault>
-    ensures link_cause { HasCause (L.faults link.old) (L.faults link.new) (link_has_failed result) }
-    ensures of_link { keeper_has_failed result ≡ false }
-{
-    match keys.as_slice().get(next) {
-        Some(key) => {
-            link.delete(key)?;
-            Ok(true)
-        }
-        None => Ok(false),
-    }
-}
-
 /// What is to go from the store and the tables. Nothing is changed.
 fn store_of<K: Keeper>(
     alloc: Global,
     keeper: &mut K,
     keys: &KeyList,
 ) -> Result<StoreRepair, FsckFault>
+    ensures found { IfOk result (λ r. (t : Told) → K.told keeper.old ≡ Some t → IsOrdered t.tables → IsStoreFound keys.now t.tables r) }
+    ensures refusal { IfErr result (λ e. (t : Told) → K.told keeper.old ≡ Some t → IsRefusal (parameters_of t.tables.params) e) }
+    ensures same { K.told keeper.new ≡ K.told keeper.old }
     ensures keeper_cause { HasCause (K.faults keeper.old) (K.faults keeper.new) (keeper_has_failed result) }
     ensures of_keeper { link_has_failed result ≡ false }
 {
@@ -84,17 +63,16 @@ fn store_of<K: Keeper>(
 
 impl Check {
     /// A check that has done nothing yet.
-    pub fn begin(alloc: Global) -> Self {
+    pub fn begin(alloc: Global) -> Self
+        ensures { (t : Told) (o : Objects) → progress_of result t o ≡ begun t o }
+    {
         Check {
             stage: Stage::Start,
             keys: KeyList::new(alloc),
             findings: Findings::new(alloc),
-            store: StoreRepair {
-                unused: Sequence::new(alloc),
-                repair: Repair::new(alloc),
-                strays: Sequence::new(alloc),
-            },
-            next: 0,
+            unused: DoomedKeys::new(Sequence::new(alloc)),
+            rows: Batch::new(alloc),
+            strays: DoomedKeys::new(Sequence::new(alloc)),
         }
     }
 
@@ -105,87 +83,122 @@ impl Check {
         keeper: &mut K,
         link: &mut L,
     ) -> Result<bool, FsckFault>
+        requires { self.old.stage ≡ stages.Start }
+        ensures staged { IfOk result (λ made. OverTold (K.told keeper.old) (L.told link.old)
+            (λ t o. IsStagedTo made (progress_of self.old t o) self.new (K.told keeper.new) (L.told link.new))) }
+        ensures stopped { IfErr result (λ e. OverTold (K.told keeper.old) (L.told link.old)
+            (λ t o. IsStopped e (progress_of self.old t o) (K.told keeper.new) (L.told link.new))) }
         ensures keeper_cause { HasCause (K.faults keeper.old) (K.faults keeper.new) (keeper_has_failed result) }
         ensures link_cause { HasCause (L.faults link.old) (L.faults link.new) (link_has_failed result) }
     {
         let started = begin_check(alloc, keeper, link)?;
         self.keys = started.keys;
-        self.stage = Stage::Names;
+        self.stage = Stage::Batch(Batched::Names);
         Ok(started.marked)
     }
 
-    /// Makes the pass of a stage that is one batch.
-    fn take_batch<K: Keeper>(&mut self, alloc: Global, keeper: &mut K) -> Result<bool, FsckFault>
-        ensures keeper_cause { HasCause (K.faults keeper.old) (K.faults keeper.new) (keeper_has_failed result) }
-        ensures of_keeper { link_has_failed result ≡ false }
-    {
-        let keys = &self.keys;
-        let findings = &mut self.findings;
-        match self.stage {
-            Stage::Names => take_pass::<K, Names>(alloc, keeper, keys, findings),
-            Stage::Rows => take_pass::<K, Rows>(alloc, keeper, keys, findings),
-            Stage::Objects => take_pass::<K, Objects>(alloc, keeper, keys, findings),
-            Stage::Losses => take_pass::<K, Losses>(alloc, keeper, keys, findings),
-            _ => take_pass::<K, Counts>(alloc, keeper, keys, findings),
-        }
-    }
-
-    /// Makes the pass of a stage that is one batch, and goes on.
+    /// Makes a pass that is one batch, and goes on.
     fn take_batch_stage<K: Keeper>(
         &mut self,
         alloc: Global,
         keeper: &mut K,
-        then: Stage,
+        pass: Batched,
     ) -> Result<bool, FsckFault>
+        requires { self.old.stage ≡ stages.Batch pass }
+        ensures staged { IfOk result (λ made. (store : Option Objects) → OverTold (K.told keeper.old) store
+            (λ t o. IsStagedTo made (progress_of self.old t o) self.new (K.told keeper.new) store)) }
+        ensures stopped { IfErr result (λ e. (store : Option Objects) → OverTold (K.told keeper.old) store
+            (λ t o. IsStopped e (progress_of self.old t o) (K.told keeper.new) store)) }
         ensures keeper_cause { HasCause (K.faults keeper.old) (K.faults keeper.new) (keeper_has_failed result) }
         ensures of_keeper { link_has_failed result ≡ false }
     {
-        let made = self.take_batch(alloc, keeper)?;
-        self.stage = then;
+        let made = take_batch(alloc, keeper, &self.keys, &mut self.findings, pass)?;
+        self.stage = behind(pass);
         Ok(made)
     }
 
     /// Notes what is to go from the store.
-    fn note_store(&mut self, alloc: Global, found: StoreRepair) -> Result<(), AllocError> {
-        let mut found = found;
-        let lines = mem::replace(&mut found.repair.findings, Findings::new(alloc));
-        add_lines(&mut self.findings, lines)?;
-        self.store = found;
+    fn note_store(&mut self, found: StoreRepair) -> Result<(), AllocError>
+        ensures noted { OnOk result ((t : Told) (o : Objects) → progress_of self.new t o ≡ record (progress_of self.old t o) {
+          stage = stages.UnusedKeys;
+          lines = self.old.findings ++ found.repair.findings;
+          unused = found.unused;
+          rows = found.repair.batch;
+          strays = found.strays;
+        }) }
+    {
+        let StoreRepair {
+            unused,
+            repair,
+            strays,
+        } = found;
+        let Repair { batch, findings } = repair;
+        add_lines(&mut self.findings, findings)?;
+        self.unused = DoomedKeys::new(unused);
+        self.rows = batch;
+        self.strays = DoomedKeys::new(strays);
         self.stage = Stage::UnusedKeys;
         Ok(())
     }
 
+    /// Looks at the store, where no change is made.
+    fn take_store<K: Keeper>(&mut self, alloc: Global, keeper: &mut K) -> Result<bool, FsckFault>
+        requires { self.old.stage ≡ stages.Store }
+        ensures staged { IfOk result (λ made. (store : Option Objects) → OverTold (K.told keeper.old) store
+            (λ t o. IsStagedTo made (progress_of self.old t o) self.new (K.told keeper.new) store)) }
+        ensures stopped { IfErr result (λ e. (store : Option Objects) → OverTold (K.told keeper.old) store
+            (λ t o. IsStopped e (progress_of self.old t o) (K.told keeper.new) store)) }
+        ensures keeper_cause { HasCause (K.faults keeper.old) (K.faults keeper.new) (keeper_has_failed result) }
+        ensures of_keeper { link_has_failed result ≡ false }
+    {
+        let found = store_of(alloc, keeper, &self.keys)?;
+        self.note_store(found)?;
+        Ok(false)
+    }
+
     /// Deletes the next key of an object that no block has.
     fn delete_unused<L: Link>(&mut self, link: &mut L) -> Result<bool, FsckFault>
+        requires { self.old.stage ≡ stages.UnusedKeys }
+        ensures staged { IfOk result (λ made. (tables : Option Told) → OverTold tables (L.told link.old)
+            (λ t o. IsStagedTo made (progress_of self.old t o) self.new tables (L.told link.new))) }
+        ensures stopped { IfErr result (λ e. (tables : Option Told) → OverTold tables (L.told link.old)
+            (λ t o. IsStopped e (progress_of self.old t o) tables (L.told link.new))) }
         ensures link_cause { HasCause (L.faults link.old) (L.faults link.new) (link_has_failed result) }
         ensures of_link { keeper_has_failed result ≡ false }
     {
-        if delete_next(link, &self.store.unused, self.next)? {
-            self.next = self.next.saturating_add(1);
+        if self.unused.delete_first(link)? {
             return Ok(true);
         }
-        self.next = 0;
         self.stage = Stage::UnusedRows;
         Ok(false)
     }
 
     /// Deletes the rows of these objects.
     fn delete_rows<K: Keeper>(&mut self, keeper: &mut K) -> Result<bool, FsckFault>
+        requires { self.old.stage ≡ stages.UnusedRows }
+        ensures staged { IfOk result (λ made. (store : Option Objects) → OverTold (K.told keeper.old) store
+            (λ t o. IsStagedTo made (progress_of self.old t o) self.new (K.told keeper.new) store)) }
+        ensures stopped { IfErr result (λ e. (store : Option Objects) → OverTold (K.told keeper.old) store
+            (λ t o. IsStopped e (progress_of self.old t o) (K.told keeper.new) store)) }
         ensures keeper_cause { HasCause (K.faults keeper.old) (K.faults keeper.new) (keeper_has_failed result) }
         ensures of_keeper { link_has_failed result ≡ false }
     {
-        let made = commit_some(keeper, &self.store.repair.batch)?;
+        let made = commit_some(keeper, &self.rows)?;
         self.stage = Stage::StrayKeys;
         Ok(made)
     }
 
     /// Deletes the next key that no row has.
     fn delete_stray<L: Link>(&mut self, link: &mut L) -> Result<bool, FsckFault>
+        requires { self.old.stage ≡ stages.StrayKeys }
+        ensures staged { IfOk result (λ made. (tables : Option Told) → OverTold tables (L.told link.old)
+            (λ t o. IsStagedTo made (progress_of self.old t o) self.new tables (L.told link.new))) }
+        ensures stopped { IfErr result (λ e. (tables : Option Told) → OverTold tables (L.told link.old)
+            (λ t o. IsStopped e (progress_of self.old t o) tables (L.told link.new))) }
         ensures link_cause { HasCause (L.faults link.old) (L.faults link.new) (link_has_failed result) }
         ensures of_link { keeper_has_failed result ≡ false }
     {
-        if delete_next(link, &self.store.strays, self.next)? {
-            self.next = self.next.saturating_add(1);
+        if self.strays.delete_first(link)? {
             return Ok(true);
         }
         self.stage = Stage::Finish;
@@ -194,45 +207,17 @@ impl Check {
 
     /// Marks the file system as clean.
     fn take_finish<K: Keeper>(&mut self, alloc: Global, keeper: &mut K) -> Result<bool, FsckFault>
+        requires { self.old.stage ≡ stages.Finish }
+        ensures staged { IfOk result (λ made. (store : Option Objects) → OverTold (K.told keeper.old) store
+            (λ t o. IsStagedTo made (progress_of self.old t o) self.new (K.told keeper.new) store)) }
+        ensures stopped { IfErr result (λ e. (store : Option Objects) → OverTold (K.told keeper.old) store
+            (λ t o. IsStopped e (progress_of self.old t o) (K.told keeper.new) store)) }
         ensures keeper_cause { HasCause (K.faults keeper.old) (K.faults keeper.new) (keeper_has_failed result) }
         ensures of_keeper { link_has_failed result ≡ false }
     {
         finish(alloc, keeper)?;
         self.stage = Stage::Over;
         Ok(true)
-    }
-
-    /// Does what a stage of the passes does, and says whether it changed anything.
-    fn take_pass_stage<K: Keeper>(
-        &mut self,
-        alloc: Global,
-        keeper: &mut K,
-    ) -> Result<bool, FsckFault>
-        ensures keeper_cause { HasCause (K.faults keeper.old) (K.faults keeper.new) (keeper_has_failed result) }
-        ensures of_keeper { link_has_failed result ≡ false }
-    {
-        let then = match self.stage {
-            Stage::Names => Stage::Rows,
-            Stage::Rows => Stage::Objects,
-            Stage::Objects => Stage::Losses,
-            Stage::Losses => Stage::Counts,
-            _ => Stage::Store,
-        };
-        self.take_batch_stage(alloc, keeper, then)
-    }
-
-    /// Looks at the store, where no change is made.
-    fn take_store_stage<K: Keeper>(
-        &mut self,
-        alloc: Global,
-        keeper: &mut K,
-    ) -> Result<bool, FsckFault>
-        ensures keeper_cause { HasCause (K.faults keeper.old) (K.faults keeper.new) (keeper_has_failed result) }
-        ensures of_keeper { link_has_failed result ≡ false }
-    {
-        let found = store_of(alloc, keeper, &self.keys)?;
-        self.note_store(alloc, found)?;
-        Ok(false)
     }
 
     /// Does what a stage does, and says whether it changed anything.
@@ -242,18 +227,22 @@ impl Check {
         keeper: &mut K,
         link: &mut L,
     ) -> Result<bool, FsckFault>
+        ensures staged { IfOk result (λ made. OverTold (K.told keeper.old) (L.told link.old)
+            (λ t o. IsStagedTo made (progress_of self.old t o) self.new (K.told keeper.new) (L.told link.new))) }
+        ensures stopped { IfErr result (λ e. OverTold (K.told keeper.old) (L.told link.old)
+            (λ t o. IsStopped e (progress_of self.old t o) (K.told keeper.new) (L.told link.new))) }
         ensures keeper_cause { HasCause (K.faults keeper.old) (K.faults keeper.new) (keeper_has_failed result) }
         ensures link_cause { HasCause (L.faults link.old) (L.faults link.new) (link_has_failed result) }
     {
         match self.stage {
             Stage::Start => self.take_start(alloc, keeper, link),
-            Stage::Store => self.take_store_stage(alloc, keeper),
+            Stage::Batch(pass) => self.take_batch_stage(alloc, keeper, pass),
+            Stage::Store => self.take_store(alloc, keeper),
             Stage::UnusedKeys => self.delete_unused(link),
             Stage::UnusedRows => self.delete_rows(keeper),
             Stage::StrayKeys => self.delete_stray(link),
             Stage::Finish => self.take_finish(alloc, keeper),
             Stage::Over => Ok(false),
-            _ => self.take_pass_stage(alloc, keeper),
         }
     }
 
@@ -264,11 +253,17 @@ impl Check {
         keeper: &mut K,
         link: &mut L,
     ) -> Result<Stepped, FsckFault>
+        // Exactly the change of its definition, or the end with all lines where none was left.
+        ensures step { IfOk result (λ r. OverTold (K.told keeper.old) (L.told link.old)
+            (λ t o. IsStep (step_after (progress_of self.old t o)) r self.new (K.told keeper.new) (L.told link.new))) }
+        // A refusal is that of the definition, or of a device, and changes nothing but that a key may be gone.
+        ensures stopped { IfErr result (λ e. OverTold (K.told keeper.old) (L.told link.old)
+            (λ t o. IsStopped e (progress_of self.old t o) (K.told keeper.new) (L.told link.new))) }
         ensures keeper_cause { HasCause (K.faults keeper.old) (K.faults keeper.new) (keeper_has_failed result) }
         ensures link_cause { HasCause (L.faults link.old) (L.faults link.new) (link_has_failed result) }
     {
         for _stage in 0..u64::MAX {
-            if self.stage == Stage::Over {
+            if matches!(self.stage, Stage::Over) {
                 let findings = mem::replace(&mut self.findings, Findings::new(alloc));
                 return Ok(Stepped::Done(findings));
             }
