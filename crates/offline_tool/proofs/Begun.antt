@@ -1,10 +1,14 @@
 -- The file system of a replay that was just made, and its core that was just opened.
-use Rattle.std.proofs.Common.{◌≡◌, ◌<◌, ◌≤◌, ℕ, [], ◌∷◌, length, Some, refl, sym, ap, ◌∙◌, subst, arith}
-use Rattle.std.specs.Prelude.{IsTrue, nat_le, is_some, ◌||◌, true, false}
+use Rattle.std.proofs.Common.{◌≡◌, ◌<◌, ◌≤◌, ℕ, List, [], ◌∷◌, Bool, true, false, cond, None, Some, refl, sym, ap, ◌∙◌, subst, arith}
+use Rattle.std.specs.Prelude.{IsTrue, nat_le, is_some, option_and_then, ◌||◌}
+use Rattle.std.specs.BTreeMap.{is_at}
+use Rattle.std.specs.Ordering.{nat_cmp}
 use Rattle.std.specs.List.{list_all}
 use Rattle.std.specs.List.Sorted.{IsStrictlySortedBy}
 use Rattle.sha2.specs.Sha256.{sha256}
-use Rattle.plain_tree.specs.Tree.{made_tree}
+use Rattle.s3_base.specs.Numbers.{root}
+use Rattle.plain_tree.specs.Files.{bytes_of, file_at}
+use Rattle.plain_tree.specs.Tree.{Directory, Node, empty_directory, lost_and_found, made_tree}
 use Rattle.s3_rows.specs.declared.change.Change.TheVariants as changes
 use Rattle.s3_rows.specs.Rows.{Parameters}
 use Rattle.s3_rows.specs.Made.{made_tables, made_parameters}
@@ -19,11 +23,23 @@ use Rattle.core_model.specs.Bytes.{HasBytes, no_overlay}
 use Rattle.core_model.specs.Safe.{HaveHeld}
 use Rattle.block_steps.specs.Owed.{next_block_of}
 use Rattle.file_ops.specs.FileChanges.{next_object_of}
-use Rattle.ref_counts.specs.Plans.{next_name_of, uses_of}
+use Rattle.ref_counts.specs.Plans.{next_name_of}
+use Rattle.tree_laws.specs.Growth.{HaveFewNames}
 use Rattle.volume_core.specs.Opening.{IsMounting, mounted}
 use Rattle.volume_core.specs.Standing.{StandsFor}
 use Rattle.offline_tool.specs.declared.served.Served.{Served}
 use Rattle.offline_tool.specs.Serving.{HasBytesOf, IsBegun, told_by}
+
+-- the made tree has directories alone
+no_file : (block_size inode : ℕ) (bytes : List ℕ) → file_at (made_tree block_size 0) inode ≡ Some bytes → ⊥
+no_file block_size inode bytes there = by_test (is_at (nat_cmp inode) root) (is_at (nat_cmp inode) 2) there
+  where
+    by_test : (a b : Bool)
+        → option_and_then (λ (n : Node). bytes_of n.content)
+        (cond a (Some (record (empty_directory 493 0) { content = Directory ((lost_and_found, 2) ∷ []) })) (cond b (Some (empty_directory 448 0)) None)) ≡ Some bytes → ⊥
+    by_test true b is = cc is
+    by_test false true is = cc is
+    by_test false false is = cc is
 
 module _ (s : Served) (keeper : Told) (block_size slots : ℕ) (made : keeper.tables ≡ made_tables block_size slots 0) (least : 4096 ≤ block_size)
     (mounting : IsMounting keeper (told_by s.core.keeper)) where
@@ -50,23 +66,25 @@ module _ (s : Served) (keeper : Told) (block_size slots : ℕ) (made : keeper.ta
       let own : HasBytes m opened no_overlay (tree_of m opened) = law m opened (mounted (made_parameters block_size slots)) refl (omega (arith, least)) tt refl in
       let same : tree_of m opened ≡ tree_of [] (made_tables block_size slots 0) = refl in
       record {
+        backed = record {
         has = subst (λ (t : Tables). HasBytes m t no_overlay (made_tree block_size 0)) (sym tables) (subst (HasBytes m opened no_overlay) (same ∙ whole) own);
         held = subst (λ (t : Tables). HaveHeld m (objects_in s.link) t.blocks) (sym tables) tt;
+        };
+        exact = λ inode blockno none bytes there. absurd (no_file block_size inode bytes there);
       }
 
-  pub begun : ((m : Contents) (t : Tables) (p : Parameters) → t.params ≡ Some p → 0 < p.block_size → HaveBytes m t.blocks
+  pub begun : ((block : ℕ) (time : ℕ) → HaveFewNames 1 (made_tree block time)) → ((m : Contents) (t : Tables) (p : Parameters) → t.params ≡ Some p → 0 < p.block_size → HaveBytes m t.blocks
       → IsTrue (list_all (λ r. nat_le r.size p.block_size) t.blocks) → HasBytes m t no_overlay (tree_of m t)) → tree_of [] (made_tables block_size slots 0) ≡ made_tree block_size 0
       → StandsFor told_by s.core (made_tree block_size 0) → IsBegun s (made_tree block_size 0)
-  begun law whole stands = record {
+  begun few law whole stands = record {
     serves = record {
       stands = stands;
-      size = omega (arith, least);
+      size = least;
       held = subst (λ (t : Tables). AreHeld sha256 (objects_in s.link) t.blocks) (sym tables) tt;
       names = subst (λ (t : Tables). next_name_of t ≤ 2) (sym tables) (omega arith);
-      uses = subst (λ (t : Tables). uses_of t ≤ 1) (sym tables) (omega arith);
+      links = few block_size 0;
       blocks = subst (λ (t : Tables). next_block_of t ≤ 1) (sym tables) (omega arith);
       objects = subst (λ (t : Tables). next_object_of t ≤ 1) (sym tables) (omega arith);
-      places = subst (λ (t : Tables). length t.inode_blocks ≤ 0) (sym tables) (omega arith);
     };
     backed = has_bytes law whole;
   }

@@ -1,11 +1,10 @@
 pub mod Answering
 pub mod Begun
-pub mod BlockRoom
 pub mod Blocks
 pub mod Bounds
 pub mod Frame
+pub mod LimitLaws
 pub mod Next
-pub mod Room
 pub mod Runs
 pub mod Stored
 pub mod Streams

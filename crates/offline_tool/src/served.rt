@@ -16,6 +16,8 @@ use op_frames::{Op, Reply};
 use std::alloc::{AllocError, Global};
 use steady_keeper::SteadyKeeper;
 use steady_link::SteadyLink;
+use tree_laws::names_of_inodes_grow_by_one;
+use tree_limits::{worn_blocks_are_full, worn_copies_are_full, worn_names_are_full};
 use tree_rows::made_tables_are_the_made_tree;
 use volume_core::{OpenFault, RowCore, made_tables_are_ready};
 
@@ -70,6 +72,7 @@ pub fn open_made(alloc: Global, block_size: u32, slots: u32) -> Result<Served, A
     made_tables_are_ready();
     made_tables_are_the_made_tree();
     tables_have_the_bytes_of_their_tree();
+    names_of_inodes_grow_by_one();
     let Devices { keeper, link } = made_devices(alloc, block_size, slots)?;
     match RowCore::open(alloc, keeper) {
         Ok(core) => Ok(Served { core, link }),
@@ -80,8 +83,8 @@ pub fn open_made(alloc: Global, block_size: u32, slots: u32) -> Result<Served, A
     }
 }
 
-/// Answers an operation whose frame lies in an input of at most 2^40 bytes. No fault but want of memory is answered, no number or
-/// count is worn, and nothing is lost.
+/// Answers an operation whose frame lies in an input of at most 2^40 bytes. No fault but want of memory is answered, nothing is lost, and
+/// no number is worn; a count only where copies of trees have brought it to its end.
 pub fn answer(served: &mut Served, pass: u64, op: &Op, now: u64) -> Reply
     requires op { IsTrue (is_op op.now) }
     requires now { now < 2 ^ 62 }
@@ -91,6 +94,10 @@ pub fn answer(served: &mut Served, pass: u64, op: &Op, now: u64) -> Reply
     ensures short { IsTrue (has_short_data result) }
 {
     operations_on_names_keep_bytes();
+    names_of_inodes_grow_by_one();
+    worn_names_are_full();
+    worn_copies_are_full();
+    worn_blocks_are_full();
     let Served { core, link } = served;
     core.answer(pass, op, now, link)
 }
