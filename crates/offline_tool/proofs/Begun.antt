@@ -67,8 +67,8 @@ module _ (s : Served) (keeper : Told) (block_size slots : ℕ) (made : keeper.ta
       let same : tree_of m opened ≡ tree_of [] (made_tables block_size slots 0) = refl in
       record {
         backed = record {
-        has = subst (λ (t : Tables). HasBytes m t no_overlay (made_tree block_size 0)) (sym tables) (subst (HasBytes m opened no_overlay) (same ∙ whole) own);
-        held = subst (λ (t : Tables). HaveHeld m (objects_in s.link) t.blocks) (sym tables) tt;
+          has = subst (λ (t : Tables). HasBytes m t no_overlay (made_tree block_size 0)) (sym tables) (subst (HasBytes m opened no_overlay) (same ∙ whole) own);
+          held = subst (λ (t : Tables). HaveHeld m (objects_in s.link) t.blocks) (sym tables) tt;
         };
         exact = λ inode blockno none bytes there. absurd (no_file block_size inode bytes there);
       }

@@ -12,8 +12,8 @@ ghost use Rattle.ref_counts.specs.Pending.{inode_put, name_put, link_put, block_
 
 use s3_base::ByteList;
 use s3_rows::{
-    Batch, BlockRow, Change, InodeBlockRow, InodeRow, Keeper, KeeperFault, NameRow, ObjectRow, Params, RowId,
-    Spot,
+    Batch, BlockRow, Change, InodeBlockRow, InodeRow, Keeper, KeeperFault, NameRow, ObjectRow,
+    Params, RowId, Spot,
 };
 use std::alloc::AllocError;
 
