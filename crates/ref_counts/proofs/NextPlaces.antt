@@ -150,7 +150,7 @@ all_dropped t batch first inode from next found is here left =
     (sym (places_none inode next t.inode_blocks (none_found (find (is_place_from inode next) t.inode_blocks) (sym is ∙ here))))
     ∙ left
   where
-    none_found : (row : Option InodeBlock) → None ≡ option_map (λ (r : InodeBlock). r.blockno) row → row ≡ None
+    none_found : (row : Option InodeBlock) → option_map (λ (r : InodeBlock). r.blockno) row ≡ None → row ≡ None
     none_found None none = refl
     none_found (Some r) none = absurd (cc none)
 
